@@ -1,0 +1,2 @@
+pub mod Contests
+pub mod Winners
