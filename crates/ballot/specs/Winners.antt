@@ -1,5 +1,5 @@
 -- Who wins by the reported votes.
-use Prim.Native.Nat.{ℕ, _*_, _<_}
+use Prim.Native.Nat.{ℕ, _*_, _<_, _≤_}
 use mathlib.Core.Path.{_≡_}
 use mathlib.Core.Bool.{Bool, true, false, not, _&&_}
 use mathlib.Core.List.{List, map}
@@ -19,6 +19,20 @@ votes-of cs i = getD (map (λ c. c .votes) cs) i 0
 
 abbrev pub all-votes : List Candidate → ℕ
 all-votes cs = sumBy (λ c. c .votes) cs
+
+-- With n cards a contest has at most one vote for each seat from each card; an approval may have more.
+abbrev pub Votes-fit : Kind → ℕ → ℕ → ℕ → Type 0
+Votes-fit Plurality seats n votes = votes ≤ seats * n
+Votes-fit Approval seats n votes = Unit {0}
+Votes-fit (Supermajority p q) seats n votes = votes ≤ seats * n
+
+abbrev pub votes-within : Kind → ℕ → ℕ → ℕ → Bool
+votes-within Plurality seats n votes = leb votes (seats * n)
+votes-within Approval seats n votes = true
+votes-within (Supermajority p q) seats n votes = leb votes (seats * n)
+
+abbrev pub votes-fit : Contest → ℕ → List Candidate → Bool
+votes-fit x n cs = votes-within (x .kind) (x .seats) n (all-votes cs)
 
 -- How many candidates have at least v votes.
 abbrev pub reach : ℕ → List Candidate → ℕ

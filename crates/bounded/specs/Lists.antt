@@ -4,7 +4,7 @@ use mathlib.Core.Bool.{Bool, cond}
 use mathlib.Core.List as lists
 use mathlib.Core.List.{[], _∷_, _++_}
 use lib.Dec.{ltb}
-use lib.ListN.{length, set, take}
+use lib.ListN.{length, drop, set, take}
 use denote.Ref.{now}
 use Rattle.std.specs.declared.result.Result.{Result}
 use Rattle.std.specs.declared.result.Result.the-variants.{Ok, Err}
@@ -52,3 +52,7 @@ module _ {T : Type 0} where
 
   abbrev pub emptied : Held T → Held T
   emptied h = record { items = []; memory = h .memory }
+
+  -- Memory whose first places took these items, one after the other, and whose other places are as they were.
+  abbrev pub filled : lists.List T → lists.List T → Held T
+  filled xs memory = record { items = xs; memory = xs ++ drop (length xs) memory }

@@ -32,6 +32,13 @@ impl<'a, T: Copy> List<'a, T> {
         self.len.min(self.slots.len())
     }
 
+    /// How many items there is memory for.
+    pub fn places(&self) -> usize
+        ensures { λ r. ⌜ r ≡ length (held (now (self .entry)) .memory) ⌝ }
+    {
+        self.slots.len()
+    }
+
     /// The items, first to last.
     pub fn items(&self) -> &[T]
         ensures { λ r. ⌜ now r ≡ held (now (self .entry)) .items ⌝ }

@@ -1,0 +1,3 @@
+//! The commands of the two files of an audit.
+pub mod command;
+pub mod take;
