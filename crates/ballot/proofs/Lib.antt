@@ -1,3 +1,4 @@
 pub mod Counts
 pub mod Described
+pub mod Marks
 pub mod Rules

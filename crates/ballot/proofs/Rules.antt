@@ -1,6 +1,6 @@
 -- The reported winners are the ones that the rules name.
 use Prim.Native.Nat.{ℕ, _+_, _-_, _*_, _<_, _≤_}
-use mathlib.Core.Path.{_≡_, refl, sym, ap, subst, _∙_}
+use mathlib.Core.Path.{_≡_, refl, sym, _∙_}
 use mathlib.Core.Bool.{Bool, true, false, not}
 use mathlib.Core.List.{List}
 use mathlib.Core.Logic.{inl, inr}
@@ -68,7 +68,7 @@ reach-falls cs a b h =
 -- of a loser by more.
 by-reach :
     (cs : List Candidate) (seats : ℕ) (w : ℕ → Bool) → countBy w (counting 0 (length cs)) ≡ seats →
-    Ahead Plurality (length cs) (votes-of cs) w →
+    Ahead Plurality (length cs) (all-votes cs) (votes-of cs) w →
     (i : ℕ) → i < length cs → w i ≡ leb (reach (votes-of cs i) cs) seats
 by-reach cs seats w s ahead i l =
     let n = length cs in
@@ -93,7 +93,7 @@ by-reach cs seats w s ahead i l =
 ahead-by-reach :
     (cs : List Candidate) (seats : ℕ) (w : ℕ → Bool) →
     ((i : ℕ) → i < length cs → w i ≡ leb (reach (votes-of cs i) cs) seats) →
-    Ahead Plurality (length cs) (votes-of cs) w
+    Ahead Plurality (length cs) (all-votes cs) (votes-of cs) w
 ahead-by-reach cs seats w told i j l k yes-w no-w =
     let a = leb-true (reach (votes-of cs i) cs) seats (sym (told i l) ∙ yes-w) in
     let b = leb-false (reach (votes-of cs j) cs) seats (sym (told j k) ∙ no-w) in
@@ -109,54 +109,47 @@ not-both p q a b sum half parts first second =
 
 -- So of a share, where one winner fills the one seat, nobody else is above it.
 apart :
-    (f : ℕ → ℕ) (n p q i j : ℕ) (w : ℕ → Bool) → q ≤ 2 * p → i < n → j < n → w i ≡ false → w j ≡ true →
-    p * sumBy f (counting 0 n) < q * f i → p * sumBy f (counting 0 n) < q * f j → ⊥
-apart f n p q i j w half l k no-w yes-w a b =
-    let sum = sumBy f (counting 0 n) in
+    (f : ℕ → ℕ) (n p q all i j : ℕ) (w : ℕ → Bool) → all ≡ sumBy f (counting 0 n) → q ≤ 2 * p → i < n → j < n →
+    w i ≡ false → w j ≡ true → p * all < q * f i → p * all < q * f j → ⊥
+apart f n p q all i j w e half l k no-w yes-w a b =
     elim (cases-order i j) [
-      | inl e ↦ both-ways (w i) no-w (rw e yes-w)
+      | inl same ↦ both-ways (w i) no-w (rw same yes-w)
       | inr o ↦
           elim o [
-            | inl h ↦ not-both p q (f i) (f j) sum half (parts-le-sum f n i j h k) a b
-            | inr h ↦ not-both p q (f j) (f i) sum half (parts-le-sum f n j i h l) b a
-          ]
-    ]
-
-by-sum :
-    (f : ℕ → ℕ) (n p q : ℕ) (w : ℕ → Bool) → q ≤ 2 * p → countBy w (counting 0 n) ≡ 1 →
-    Ahead (Supermajority p q) n f w → (i : ℕ) → i < n → w i ≡ ltb (p * sumBy f (counting 0 n)) (q * f i)
-by-sum f n p q w half s ahead i l =
-    let sum = sumBy f (counting 0 n) in
-    elim (cases-bool (w i)) [
-      | inl yes-w ↦ yes-w ∙ sym (lt-ltb (p * sum) (q * f i) (ahead i l yes-w))
-      | inr no-w ↦
-          let j = count-some w n (omega arith) in
-          elim (cases-lt (p * sum) (q * f i)) [
-            | inl h ↦ absurd (apart f n p q i (j .0) w half l (j .1 .0) no-w (j .1 .1) h (ahead (j .0) (j .1 .0) (j .1 .1)))
-            | inr h ↦ no-w ∙ sym (le-ltb (p * sum) (q * f i) h)
+            | inl h ↦ not-both p q (f i) (f j) all half (omega (arith, parts-le-sum f n i j h k)) a b
+            | inr h ↦ not-both p q (f j) (f i) all half (omega (arith, parts-le-sum f n j i h l)) b a
           ]
     ]
 
 by-share :
     (cs : List Candidate) (p q : ℕ) (w : ℕ → Bool) → q ≤ 2 * p → countBy w (counting 0 (length cs)) ≡ 1 →
-    Ahead (Supermajority p q) (length cs) (votes-of cs) w →
+    Ahead (Supermajority p q) (length cs) (all-votes cs) (votes-of cs) w →
     (i : ℕ) → i < length cs → w i ≡ ltb (p * all-votes cs) (q * votes-of cs i)
 by-share cs p q w half s ahead i l =
-    by-sum (votes-of cs) (length cs) p q w half s ahead i l
-    ∙ sym (ap (λ z. ltb (p * z) (q * votes-of cs i)) (all-votes-by-places cs))
+    let n = length cs in
+    let f = votes-of cs in
+    let all = all-votes cs in
+    let e = all-votes-by-places cs in
+    elim (cases-bool (w i)) [
+      | inl yes-w ↦ yes-w ∙ sym (lt-ltb (p * all) (q * f i) (ahead i l yes-w))
+      | inr no-w ↦
+          let j = count-some w n (omega arith) in
+          elim (cases-lt (p * all) (q * f i)) [
+            | inl h ↦ absurd (apart f n p q all i (j .0) w e half l (j .1 .0) no-w (j .1 .1) h (ahead (j .0) (j .1 .0) (j .1 .1)))
+            | inr h ↦ no-w ∙ sym (le-ltb (p * all) (q * f i) h)
+          ]
+    ]
 
 ahead-by-share :
     (cs : List Candidate) (p q : ℕ) (w : ℕ → Bool) →
     ((i : ℕ) → i < length cs → w i ≡ ltb (p * all-votes cs) (q * votes-of cs i)) →
-    Ahead (Supermajority p q) (length cs) (votes-of cs) w
-ahead-by-share cs p q w told i l yes-w =
-    let P : ℕ → Type 0 = λ z. p * z < q * votes-of cs i in
-    subst P (all-votes-by-places cs) (ltb-true (p * all-votes cs) (q * votes-of cs i) (sym (told i l) ∙ yes-w))
+    Ahead (Supermajority p q) (length cs) (all-votes cs) (votes-of cs) w
+ahead-by-share cs p q w told i l yes-w = ltb-true (p * all-votes cs) (q * votes-of cs i) (sym (told i l) ∙ yes-w)
 
 -- For each kind: who fill the seats and are ahead have enough votes, and nobody else; and who have enough are ahead.
 enough-from-ahead :
     (k : Kind) (c seats : ℕ) (cs : List Candidate) (w : ℕ → Bool) → Seats-fit k c seats →
-    countBy w (counting 0 (length cs)) ≡ seats → Ahead k (length cs) (votes-of cs) w →
+    countBy w (counting 0 (length cs)) ≡ seats → Ahead k (length cs) (all-votes cs) (votes-of cs) w →
     (i : ℕ) → i < length cs → w i ≡ enough k seats cs (votes-of cs i)
 enough-from-ahead Plurality c seats cs w fit s ahead i l = by-reach cs seats w s ahead i l
 enough-from-ahead Approval c seats cs w fit s ahead i l = by-reach cs seats w s ahead i l
@@ -165,7 +158,7 @@ enough-from-ahead (Supermajority p q) c seats cs w fit s ahead i l =
 
 ahead-from-enough :
     (k : Kind) (seats : ℕ) (cs : List Candidate) (w : ℕ → Bool) →
-    ((i : ℕ) → i < length cs → w i ≡ enough k seats cs (votes-of cs i)) → Ahead k (length cs) (votes-of cs) w
+    ((i : ℕ) → i < length cs → w i ≡ enough k seats cs (votes-of cs i)) → Ahead k (length cs) (all-votes cs) (votes-of cs) w
 ahead-from-enough Plurality seats cs w told = ahead-by-reach cs seats w told
 ahead-from-enough Approval seats cs w told = ahead-by-reach cs seats w told
 ahead-from-enough (Supermajority p q) seats cs w told = ahead-by-share cs p q w told

@@ -1,2 +1,3 @@
 pub mod Contests
+pub mod Votes
 pub mod Winners

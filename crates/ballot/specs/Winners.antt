@@ -60,17 +60,17 @@ abbrev pub has-winners : Contest → List Candidate → Bool
 has-winners x cs = eqb (length (winners x cs)) (x .seats)
 
 -- In the rules' own words, w being true of the winners: of c candidates with these votes, each winner has more than
--- each loser; or, of a share, each winner has more than p/q of all the votes.
-abbrev pub Ahead : Kind → ℕ → (ℕ → ℕ) → (ℕ → Bool) → Type 0
-Ahead Plurality c votes w = (i j : ℕ) → i < c → j < c → w i ≡ true → w j ≡ false → votes j < votes i
-Ahead Approval c votes w = (i j : ℕ) → i < c → j < c → w i ≡ true → w j ≡ false → votes j < votes i
-Ahead (Supermajority p q) c votes w =
-    (i : ℕ) → i < c → w i ≡ true → p * sumBy votes (counting 0 c) < q * votes i
+-- each loser; or, of a share, each winner has more than p/q of all the votes. The reported votes and the votes on the
+-- cards are judged alike.
+abbrev pub Ahead : Kind → ℕ → ℕ → (ℕ → ℕ) → (ℕ → Bool) → Type 0
+Ahead Plurality c all votes w = (i j : ℕ) → i < c → j < c → w i ≡ true → w j ≡ false → votes j < votes i
+Ahead Approval c all votes w = (i j : ℕ) → i < c → j < c → w i ≡ true → w j ≡ false → votes j < votes i
+Ahead (Supermajority p q) c all votes w = (i : ℕ) → i < c → w i ≡ true → p * all < q * votes i
 
 -- w is true of as many candidates as there are seats, and they are ahead by the reported votes.
 pub record Reported-winners (x : Contest) (cs : List Candidate) (w : ℕ → Bool) : Type 0 where
   pub seated : countBy w (counting 0 (length cs)) ≡ x .seats
-  pub ahead : Ahead (x .kind) (length cs) (votes-of cs) w
+  pub ahead : Ahead (x .kind) (length cs) (all-votes cs) (votes-of cs) w
 
 -- The reported winners are the only candidates that can fill the seats by the rules, where any can.
 abbrev pub Winners-by-the-rules : Contest → List Candidate → Type 0

@@ -1,4 +1,5 @@
-//! What a ballot is about: batches of cards, contests, and candidates with their reported votes.
+//! What a ballot is about: batches of cards, contests, candidates with their reported votes, and the
+//! marks on a card.
 mod operands;
 mod winners;
 
@@ -33,6 +34,13 @@ pub struct Contest {
     pub kind: Kind,
     pub candidates: u8,
     pub seats: u8,
+}
+
+/// The marks on a card. Each of eight contests has a number, whose bit of value 2^i is the mark of
+/// candidate i, counted from 0.
+#[derive(Clone, Copy, PartialEq, Eq, Debug)]
+pub struct Card {
+    pub marks: [u32; 8],
 }
 
 #[cfg(test)]

@@ -36,7 +36,8 @@ impl<'a, T: Copy> List<'a, T> {
     pub fn places(&self) -> usize
         ensures { λ r. ⌜ r ≡ length (held (now (self .entry)) .memory) ⌝ }
     {
-        self.slots.len()
+        let memory = &*self.slots;
+        memory.len()
     }
 
     /// The items, first to last.

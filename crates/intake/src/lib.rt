@@ -1,8 +1,11 @@
-//! The files that the programs read.
+//! What the programs share: a file within its limit, and memory for what it describes.
 ghost use Prim.Native.Nat.{_≤_};
 ghost use Rattle.std.specs.Of.Vec.{vec-len};
 ghost use Rattle.std.specs.Options.{Cases as BySome};
 ghost use Rattle.std.specs.Vec.{made};
+
+pub mod memory;
+
 use std::fs::File;
 use std::io;
 use std::io::ErrorKind;

@@ -1,10 +1,4 @@
 //! The lines of a plan.
-use crate::names::KindName;
-use crate::names::KindNameDisplay;
-use crate::names::Many;
-use crate::names::ManyDisplay;
-use crate::names::Name;
-use crate::names::NameDisplay;
 use assertion::Assertion;
 use assertion::Pair;
 use assertion::Planned;
@@ -14,6 +8,12 @@ use ballot::Batch;
 use ballot::Candidate;
 use ballot::Contest;
 use bounded::List;
+use names::KindName;
+use names::KindNameDisplay;
+use names::Many;
+use names::ManyDisplay;
+use names::Name;
+use names::NameDisplay;
 use setup::setup::PolicyChoice;
 use setup::setup::Setup;
 use std::io;
@@ -42,11 +42,7 @@ pub fn print_terms(rt: &LibcRuntime, setup: &Setup, batches: &[Batch]) -> io::Re
 }
 
 /// The winners of a contest, with their reported votes.
-fn print_winners(
-    rt: &LibcRuntime,
-    contest: &Contest,
-    candidates: &[Candidate],
-) -> io::Result<()> {
+fn print_winners(rt: &LibcRuntime, contest: &Contest, candidates: &[Candidate]) -> io::Result<()> {
     for (i, candidate) in candidates.iter().enumerate() {
         if contest.wins(candidates, i) {
             let name = Name(candidate.name);
@@ -129,29 +125,14 @@ fn print_contest(
     print_assertions(rt, number, candidates, planned)
 }
 
-/// Memory for the assertions of an audit.
-fn no_plan() -> [Planned; 256] {
-    let share = Share {
-        contest: 0,
-        winner: 0,
-        p: 1,
-        q: 2,
-    };
-    let blank = Planned {
-        assertion: Assertion::Share(share),
-        first_bet: 0,
-    };
-    [blank; 256]
-}
-
 /// Every contest, with its candidates from the front of those that the contests before it left.
 pub fn print_contests(
     rt: &LibcRuntime,
     contests: &[Contest],
     candidates: &[Candidate],
+    memory: &mut [Planned],
 ) -> io::Result<()> {
-    let mut slots = no_plan();
-    let mut planned = List::over(&mut slots);
+    let mut planned = List::over(memory);
     if let Err(refusal) = list_assertions(contests, candidates, &mut planned) {
         let number = refusal.number();
         return println!(rt, "refused {number}");

@@ -1,29 +1,12 @@
 //! Judges every file that `cases.txt` names, a line for each; `tools/make_cases.py` writes them.
 //! Then the worked example, into lists that are one place too short.
-use ballot::Batch;
-use ballot::Candidate;
-use ballot::Contest;
-use ballot::Kind;
 use bounded::List;
+use intake::memory::Memory;
 use intake::read_file;
 use refusal::FaultDisplay;
 use setup::read::read_setup;
 use std::fs;
 use std::io;
-
-const NO_BATCH: Batch = Batch {
-    name: [0; 8],
-    cards: 0,
-};
-const NO_CONTEST: Contest = Contest {
-    kind: Kind::Plurality,
-    candidates: 0,
-    seats: 0,
-};
-const NO_CANDIDATE: Candidate = Candidate {
-    name: [0; 8],
-    votes: 0,
-};
 
 /// How many places each list has.
 #[derive(Clone, Copy)]
@@ -41,12 +24,10 @@ const ENOUGH: Places = Places {
 
 /// What the file is answered, into lists of so many places.
 fn judge(rt: &LibcRuntime, case: &str, file: &[u8], places: Places) -> io::Result<()> {
-    let mut batch_slots = [NO_BATCH; 200];
-    let mut contest_slots = [NO_CONTEST; 8];
-    let mut candidate_slots = [NO_CANDIDATE; 256];
-    let mut batches = List::over(&mut batch_slots[0..places.batches.min(200)]);
-    let mut contests = List::over(&mut contest_slots[0..places.contests.min(8)]);
-    let mut candidates = List::over(&mut candidate_slots[0..places.candidates.min(256)]);
+    let mut memory = Memory::blank();
+    let mut batches = List::over(&mut memory.batches[0..places.batches.min(200)]);
+    let mut contests = List::over(&mut memory.contests[0..places.contests.min(8)]);
+    let mut candidates = List::over(&mut memory.candidates[0..places.candidates.min(256)]);
     match read_setup(file, &mut batches, &mut contests, &mut candidates) {
         Ok(_) => println!(rt, "{case}\taccepted"),
         Err(fault) => println!(rt, "{case}\t{fault}"),

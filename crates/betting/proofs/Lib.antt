@@ -1,0 +1,4 @@
+pub mod Cuts
+pub mod Pencil
+pub mod Quotients
+pub mod Runs

@@ -1,0 +1,5 @@
+pub mod Accounts
+pub mod Examples
+pub mod Policies
+pub mod Shrinks
+pub mod Sums
