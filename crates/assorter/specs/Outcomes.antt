@@ -52,8 +52,8 @@ Tells-contests r assertions cards =
     Decides r (All-won 0 xs cs cards)
 
 -- Where the assertions were listed, the answer says whether all contests were truly won; a refusal is passed on.
-abbrev pub Full-count : List Contest → List Candidate → List Card → Result Unit Refusal → Result Bool Refusal → Type 0
-Full-count xs cs cards (Ok listed) (Ok won) = Decides won (All-won 0 xs cs cards)
-Full-count xs cs cards (Ok listed) (Err e) = ⊥
-Full-count xs cs cards (Err e) (Ok won) = ⊥
-Full-count xs cs cards (Err e) (Err d) = d ≡ e
+abbrev pub Tells-won : List Contest → List Candidate → List Card → Result Unit Refusal → Result Bool Refusal → Type 0
+Tells-won xs cs cards (Ok listed) (Ok won) = Decides won (All-won 0 xs cs cards)
+Tells-won xs cs cards (Ok listed) (Err e) = ⊥
+Tells-won xs cs cards (Err e) (Ok won) = ⊥
+Tells-won xs cs cards (Err e) (Err d) = d ≡ e

@@ -1,17 +1,17 @@
 //! What one card is worth to each assertion, and what the values of all cards tell of the outcome.
 mod assorters;
-mod counting;
 mod marks;
 mod outcomes;
 mod values;
+mod winners;
 
 pub use assorters::Assorter;
-pub use counting::full_count;
 pub use outcomes::all_hold;
 pub use outcomes::holds;
 pub use values::AssertionAssorter;
 pub use values::PairAssorter;
 pub use values::ShareAssorter;
+pub use winners::truly_won;
 
 #[cfg(test)]
 mod tests {

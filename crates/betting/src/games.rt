@@ -49,7 +49,7 @@ impl<A, P: Policy> Record<A, P> {
     }
 
     /// Adds a card's value to the tally of the hand count.
-    pub fn count(&mut self, value: u16)
+    pub fn add_to_tally(&mut self, value: u16)
         ensures { λ _. ⌜ account state (now (self .exit)) ≡ tallied value (account state (now (self .entry))) ⌝ }
     {
         self.tally = (self.tally + value as u32).min(LAST_TALLY);

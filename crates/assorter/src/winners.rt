@@ -2,7 +2,7 @@ ghost use denote.Ref.{name};
 ghost use mathlib.Core.Path.{_≡_};
 ghost use Rattle.bounded.specs.Lists.{held};
 ghost use Rattle.assertion.specs.Assertions.{Leaves, list-answer};
-ghost use Rattle.assorter.specs.Outcomes.{Full-count};
+ghost use Rattle.assorter.specs.Outcomes.{Tells-won};
 use super::outcomes::all_hold;
 use assertion::Planned;
 use assertion::list_assertions;
@@ -14,13 +14,13 @@ use refusal::Refusal;
 
 /// Lists the assertions of the contests in `out`, and says whether all are true of these cards: of
 /// every card that was cast, that is whether all reported winners truly won.
-pub fn full_count(
+pub fn truly_won(
     contests: &[Contest],
     candidates: &[Candidate],
     cards: &[Card],
     out: &mut List<'_, Planned>,
 ) -> Result<bool, Refusal>
-    ensures counts { λ r. ⌜ Full-count (now (contests .entry)) (now (candidates .entry)) (now (cards .entry)) (list-answer (now (contests .entry)) (now (candidates .entry)) (held (now (out .entry)))) r ⌝ }
+    ensures tells { λ r. ⌜ Tells-won (now (contests .entry)) (now (candidates .entry)) (now (cards .entry)) (list-answer (now (contests .entry)) (now (candidates .entry)) (held (now (out .entry)))) r ⌝ }
     ensures lists { λ _. ⌜ Leaves (now (contests .entry)) (now (candidates .entry)) (held (now (out .entry))) (list-answer (now (contests .entry)) (now (candidates .entry)) (held (now (out .entry)))) (held (now (out .exit))) ⌝ }
     ensures lender { λ _. ⌜ name (now (out .exit) .slots) ≡ name (now (out .entry) .slots) ⌝ }
 {
