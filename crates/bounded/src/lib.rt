@@ -1,7 +1,7 @@
 //! A list of at most as many items as the slice that its owner lends has places.
 ghost use denote.Ref.{name};
 ghost use lib.ListN.{length};
-ghost use mathlib.Core.List.{[]};
+ghost use mathlib.Core.List.{[], _∷_};
 ghost use mathlib.Core.Path.{_≡_};
 ghost use Rattle.bounded.specs.Lists.{append-answer, appended, emptied, get-answer, held, replace-answer, replaced};
 use refusal::Refusal;
@@ -96,5 +96,40 @@ impl<'a, T: Copy> List<'a, T> {
         ensures lender { λ _. ⌜ name (now (self .exit) .slots) ≡ name (now (self .entry) .slots) ⌝ }
     {
         self.len = 0;
+    }
+}
+
+#[cfg(test)]
+mod tests {
+    use super::*;
+    use refusal::RefusalDebug;
+    use refusal::RefusalPartialEq;
+    use std::test::*;
+
+    // What the array holds once the list over it has ended.
+    fn two_of_three(a: u16, b: u16) -> [u16; 3]
+        ensures { λ r. ⌜ r ≡ a ∷ b ∷ 7 ∷ [] ⌝ }
+    {
+        let mut array = [7; 3];
+        let mut list = List::over(&mut array);
+        let _ = list.append(a);
+        let _ = list.append(b);
+        array
+    }
+
+    #[test]
+    fn memory_after_the_list() -> Result<(), Fail> {
+        check_eq(two_of_three(1, 2), [1, 2, 7])
+    }
+
+    #[test]
+    fn refusals() -> Result<(), Fail> {
+        let mut array = [7u16; 1];
+        let mut list = List::over(&mut array);
+        check_eq(list.get(0), Err(Refusal::PastTheEnd))?;
+        check_eq(list.append(1), Ok(()))?;
+        check_eq(list.append(2), Err(Refusal::NoRoom))?;
+        check_eq(list.replace(1, 2), Err(Refusal::PastTheEnd))?;
+        check_eq(list.get(0), Ok(1))
     }
 }
