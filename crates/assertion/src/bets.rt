@@ -1,9 +1,9 @@
 ghost use mathlib.Core.Path.{_≡_};
 ghost use mathlib.Core.List.{[], _∷_};
 ghost use Prim.Native.Nat.{_+_, _-_, _*_, _/_};
-ghost use Rattle.assertion.specs.Bets.{bet-range, By-pencil, pair-bet, share-bet, Worked-bets};
+ghost use Rattle.assertion.specs.Bets.{bet-range, By-pencil, pair-bet, share-bet, Worked-first-bets};
 
-/// Thousandths from 1 to 950, the nearest to the quotient.
+/// The quotient, cut to 1 to 950 thousandths.
 fn in_range(quotient: u64) -> u16
     ensures { λ r. ⌜ r ≡ bet-range quotient ⌝ }
 {
@@ -47,7 +47,7 @@ pub fn share_bet(p: u16, q: u16, winner: u16, all: u32) -> u16
 /// Three first bets that can be worked out by hand.
 pub fn worked_bets() -> [u16; 3]
     ensures computed { λ r. ⌜ r ≡ 200 ∷ 400 ∷ 33 ∷ [] ⌝ }
-    ensures shown { λ _. ⌜ Worked-bets ⌝ }
+    ensures shown { λ _. ⌜ Worked-first-bets ⌝ }
 {
     [
         pair_bet(60, 40),

@@ -12,15 +12,13 @@ use super::assertions::Assertion;
 use super::assertions::Planned;
 use super::bets::pair_bet;
 use super::bets::share_bet;
+use super::pairs::ANY_MARKS;
 use super::pairs::Pair;
 use super::shares::Share;
 use ballot::Candidate;
 use ballot::Contest;
 use ballot::Kind;
 use bounded::List;
-
-/// No contest has more candidates, so that a card with this many marks or fewer is any card.
-const ANY_MARKS: u8 = 32;
 
 /// The sum of the votes of the candidates of one contest.
 fn all_votes(candidates: &[Candidate]) -> u32

@@ -13,6 +13,7 @@ pub use bets::pair_bet;
 pub use bets::share_bet;
 pub use bets::worked_bets;
 pub use listing::list_assertions;
+pub use pairs::ANY_MARKS;
 pub use pairs::Pair;
 pub use shares::Share;
 

@@ -13,7 +13,7 @@ use ballot::Contest;
 use bounded::List;
 use refusal::Refusal;
 
-/// So many contests fit on a card.
+/// A card has marks for eight contests.
 const MOST_CONTESTS: usize = 8;
 
 /// Whether the contest is in its ranges, these are its candidates, and it has its reported winners.

@@ -1,4 +1,4 @@
--- The assertions mean what the board says: their claims hold of the cards just when the reported winners truly won.
+-- The assertions mean what the report says: their claims hold of the cards just when the reported winners truly won.
 use Prim.Native.Nat.{ℕ, _+_}
 use mathlib.Core.Path.{_≡_}
 use mathlib.Core.Bool.{Bool, true}

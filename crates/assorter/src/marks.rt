@@ -2,9 +2,7 @@ ghost use mathlib.Core.Path.{_≡_};
 ghost use Prim.Native.Nat.{_<_};
 ghost use Rattle.ballot.specs.Votes.{marked};
 ghost use Rattle.assorter.specs.Values.{limited-vote, one-mark};
-
-/// A card with this many marks or fewer is any card, since no contest has more candidates.
-const ANY_MARKS: u8 = 32;
+use assertion::ANY_MARKS;
 
 /// Whether the candidate is marked.
 pub(super) fn is_marked(n: u32, candidate: u8) -> bool

@@ -35,7 +35,8 @@ gives-any Plurality seats n = leb 1 (ones n) && leb (ones n) seats
 gives-any Approval seats n = leb 1 (ones n)
 gives-any (Supermajority p q) seats n = eqb (ones n) 1
 
--- The votes on the cards for candidate i in contest k, and all votes: the cards that give one.
+-- The votes on the cards for candidate i in contest k, and the cards that give a vote, which are all votes where a
+-- card gives one at most; only a supermajority asks for them.
 abbrev pub votes-on : Contest → ℕ → List Card → ℕ → ℕ
 votes-on x k cards i = countBy (λ card. gives-vote (x .kind) (x .seats) i (marks-of card k)) cards
 

@@ -20,8 +20,8 @@ impl Contest {
         enough(self.kind, self.seats, candidates, votes)
     }
 
-    /// Whether the candidates together have no more votes than the seats and so many cards give,
-    /// which an approval may have.
+    /// Whether the candidates together have at most one vote for each seat and card; an approval may
+    /// have more.
     pub fn votes_fit(&self, cards: u16, candidates: &[Candidate]) -> bool
         ensures answer { λ r. ⌜ r ≡ votes-fit (now (self .entry)) cards (now (candidates .entry)) ⌝ }
         ensures decides { λ r. ⌜ Decides r (Votes-fit (now (self .entry) .kind) (now (self .entry) .seats) cards (all-votes (now (candidates .entry)))) ⌝ }

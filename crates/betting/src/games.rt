@@ -56,7 +56,7 @@ impl<A, P: Policy> Record<A, P> {
     }
 }
 
-/// Plays a card's value against an assertion that isn't settled at the risk limit: asks the policy
+/// Plays a card's value on an assertion that isn't settled at the risk limit: asks the policy
 /// for its bet, moves wealth and peak, then tells the policy the value. A settled record stays as
 /// it is.
 pub fn play<A: Copy, P: Policy + Copy>(

@@ -1,7 +1,7 @@
 ghost use Prim.Native.Nat.{_≤_};
 
 /// What is known so far of one assertion: its assorter, its policy, the wealth of the game that is
-/// played against it, the highest wealth so far, and the sum of the values of the hand count.
+/// played on it, the highest wealth so far, and the sum of the values of the hand count.
 #[derive(Copy)]
 pub struct Record<A, P> {
     pub assorter: A,

@@ -1,5 +1,6 @@
 //! Memory for whatever a setup within the limits describes.
 ghost use mathlib.Core.Path.{_≡_};
+ghost use Rattle.assertion.specs.Assertions.{meant, share};
 ghost use Rattle.intake.specs.Memories.{Blank};
 use assertion::Assertion;
 use assertion::Planned;
@@ -19,7 +20,9 @@ pub struct Memory {
 }
 
 /// An assertion that no contest makes.
-fn no_assertion() -> Planned {
+fn no_assertion() -> Planned
+    ensures { λ r. ⌜ meant r ≡ record { claim = share 0 0 1 2; bet = 0 } ⌝ }
+{
     let share = Share {
         contest: 0,
         winner: 0,

@@ -36,7 +36,10 @@ fn follow(
         None => (line.trim(), ""),
     };
     let number = first.parse::<usize>().unwrap_or(0);
-    match planned.get(number.wrapping_sub(1)) {
+    if number == 0 {
+        return println!(rt, "no assertion {first}");
+    }
+    match planned.get(number - 1) {
         Ok(chosen) => steps::print_steps(rt, number, &chosen, terms, outcomes),
         Err(_) => println!(rt, "no assertion {first}"),
     }

@@ -43,7 +43,7 @@ pub enum Refusal {
     ReportTooLong,
     /// The index is past the end of the list.
     PastTheEnd,
-    /// There is no setup to open.
+    /// The contests and candidates are those of no setup.
     NoSetup,
 }
 

@@ -12,16 +12,18 @@ use ballot::Candidate;
 use ballot::Contest;
 use refusal::Refusal;
 
-/// The most batches, and the most cards in all of them.
+/// The most batches.
 const BATCHES: usize = 200;
 
+/// The most cards in all batches.
 const CARDS: u16 = 65_535;
-/// The most contests, and the most assertions that all of them make.
+/// The most contests.
 const CONTESTS: usize = 8;
 
+/// The most assertions that all contests make.
 const ASSERTIONS: u16 = 256;
 
-/// To one batch more after so many batches and cards.
+/// The objection to one batch more, after so many batches and cards.
 pub fn to_batch(batches: usize, cards: u16, batch: &Batch) -> Option<Refusal>
     ensures { λ r. ⌜ r ≡ batch-objection batches cards (now (batch .entry)) ⌝ }
 {
@@ -59,7 +61,7 @@ pub fn terms_from(risk_limit: u16, draw_limit: u16, policy: u8, weight: u16) -> 
     None
 }
 
-/// To one contest more after so many contests and assertions.
+/// The objection to one contest more, after so many contests and assertions.
 pub fn to_contest(contests: usize, assertions: u16, contest: &Contest) -> Option<Refusal>
     ensures { λ r. ⌜ r ≡ contest-objection contests assertions (now (contest .entry)) ⌝ }
 {
@@ -80,7 +82,7 @@ pub fn is_last(at: &Progress) -> bool
     u16::from(at.contest.candidates) <= u16::from(at.read) + 1
 }
 
-/// To a contest with all its candidates.
+/// The objection to a contest with all its candidates.
 fn to_slate(cards: u16, contest: &Contest, candidates: &[Candidate]) -> Option<Refusal>
     ensures { λ r. ⌜ r ≡ slate-objection cards (now (contest .entry)) (now (candidates .entry)) ⌝ }
 {
@@ -93,8 +95,8 @@ fn to_slate(cards: u16, contest: &Contest, candidates: &[Candidate]) -> Option<R
     None
 }
 
-/// The candidates `before`, and then the last one, in the first places of an array: one more than
-/// a count in one byte can be.
+/// The candidates `before`, and then the last one, at the front of an array that is longer than any
+/// count in one byte.
 fn slate_of(before: &[Candidate], last: &Candidate) -> [Candidate; 256]
     requires { ⌜ length (now before) < 256 ⌝ }
     ensures { λ r. ⌜ take (length (now (before .entry)) + 1) r ≡ now (before .entry) ++ now (last .entry) ∷ [] ⌝ }
@@ -106,7 +108,7 @@ fn slate_of(before: &[Candidate], last: &Candidate) -> [Candidate; 256]
     slate
 }
 
-/// To one candidate more after those `before`, of this contest and the ones before it.
+/// The objection to one candidate more, after those `before`, of this contest and of earlier ones.
 pub fn to_candidate(at: &Progress, before: &[Candidate], candidate: &Candidate) -> Option<Refusal>
     ensures { λ r. ⌜ r ≡ candidate-objection (now (at .entry)) (now (before .entry)) (now (candidate .entry)) ⌝ }
 {
