@@ -1,0 +1,3 @@
+pub mod Sequences
+pub mod Tree
+pub mod Ville

@@ -1,0 +1,7 @@
+pub mod Steps
+pub mod Fairness
+pub mod Parts
+pub mod Theorem
+pub mod Runs
+pub mod Closings
+pub mod Rules
