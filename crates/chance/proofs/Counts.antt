@@ -1,15 +1,15 @@
 -- Counts of a property over lists, and over the draw sequences.
 use mathlib.Core.Path.{_≡_, refl, sym, ap, _∙_}
 use mathlib.Core.List.{List, [], _∷_, _++_, map}
-use Prim.Native.Nat.{ℕ, zero, suc, _+_, _*_, _^_, _≤_, _<_, zero-le, suc-le-suc}
+use Prim.Native.Nat.{ℕ, zero, suc, _+_, _*_, _^_, _≤_, _<_, suc-le-suc}
 use native.Mathlib.Nat.{mul-add, add-mul, le-step, le-refl, pow-succ', pow-zero, zero-mul, suc-mul, mul-zero}
 use native.Mathlib.Omega.{arith}
-use mathlib.Core.Logic.{_⊎_, inl, inr}
+use mathlib.Core.Logic.{inl, inr}
 use lib.ListN.{length, length-append, length-map}
 use Rattle.std.specs.shelf.Lists.{All, sumBy}
 use Rattle.std.proofs.shelf.Sums.{sumBy-cons}
 use Rattle.std.proofs.shelf.Tests.{cases-eq}
-use Rattle.chance.specs.Sequences.{places, each, sequences, Counted, Lists-all-once, All-sequences}
+use Rattle.chance.specs.Sequences.{places, each, sequences, Counted, All-sequences}
 use Rattle.chance.specs.Sequences.Counted.{none, has, lacks}
 
 -- a count is at most the length

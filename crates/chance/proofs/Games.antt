@@ -14,7 +14,7 @@ use Rattle.chance.specs.Tree.Tree.{done, call, draw}
 use Rattle.chance.specs.Ville.{Ville, wealth-of, peak-of}
 use Rattle.chance.proofs.Counts.{counted-le, counted-as, counted-never, counted-some, counted-mono, length-sequences, each-bounded}
 
-either : {A B : Type 0} → Dec A → Dec B → Dec (A ⊎ B)
+pub either : {A B : Type 0} → Dec A → Dec B → Dec (A ⊎ B)
 either (yes a) d = yes (inl a)
 either (no f) (yes b) = yes (inr b)
 either (no f) (no g) = no (⊎-elim f g)

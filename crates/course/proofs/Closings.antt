@@ -1,31 +1,29 @@
 -- A hand count of all places decides each contest.
-use Prim.Native.Nat.{ℕ, zero, suc, _+_, _-_, _*_, _≤_, _<_, min}
+use Prim.Native.Nat.{ℕ, zero, suc, _+_, _-_, _*_, _≤_, _<_}
 use mathlib.Core.Path.{_≡_, refl, sym, ap, subst, _∙_}
-use mathlib.Core.Bool.{Bool, true, false, cond, _&&_}
+use mathlib.Core.Bool.{Bool, true, false, cond}
 use mathlib.Core.List.{List, [], _∷_, _++_, map}
-use mathlib.Core.Logic.{inl, inr}
-use native.Mathlib.Nat.{le-trans, le-of-eq, le-refl, mul-le-mul-right}
+use native.Mathlib.Nat.{le-trans, le-of-eq, le-refl}
 use native.Mathlib.Omega.{arith}
 use lib.Dec.{eqb, ltb}
 use lib.ListN.{length, getD, take, drop}
 use lib.Seq.{take-all}
 use Rattle.std.specs.declared.option.Option.{Option}
 use Rattle.std.specs.declared.option.Option.the-variants.{Some, None}
-use Rattle.std.specs.Orderings.{Decides}
 use Rattle.std.specs.shelf.Lists.{All, Each, sumBy}
 use Rattle.std.proofs.shelf.Sums.{sumBy-cons}
 use Rattle.std.proofs.shelf.Tests.{and-from, and-parts, cond-false, eq-eqb, le-ltb, lt-ltb, ltb-true}
 use Rattle.refusal.specs.declared.Refusal.{Refusal}
-use Rattle.refusal.specs.declared.Refusal.the-variants.{CountUnfinished, NotTheNextPlace}
+use Rattle.refusal.specs.declared.Refusal.the-variants.{NotTheNextPlace}
 use Rattle.chance.specs.Sequences.{places}
 use Rattle.chance.proofs.Counts.{length-places}
 use Rattle.betting.specs.Accounts.{Account, opened}
-use Rattle.course.specs.Terms.{Terms, Shown, blank-card, marks-fit, shown-refusal}
-use Rattle.course.specs.Course.{Rules, Lawful, State, Call, Answer, after-count, after-entry, all-above, answered, first-of, parts, refusal-of, shown-value, step}
+use Rattle.course.specs.Terms.{Terms, Shown, blank-card}
+use Rattle.course.specs.Course.{Rules, Lawful, State, Call, Answer, after-count, after-entry, all-above, first-of, parts, refusal-of, shown-value, step}
 use Rattle.course.specs.Course.Call.{entry, verdict, escalation, hand-count, closing}
 use Rattle.course.specs.Course.Answer.{upheld}
 use Rattle.course.specs.Scripts.{Ballot, show-card, show-drawn, show-missing}
-use Rattle.course.specs.Bounds.{Fits, Opened, accounts-of}
+use Rattle.course.specs.Bounds.{Fits, Opened}
 use Rattle.course.specs.Laws.{Before-escalation, Claims-hold, Closes-rightly, Counts-decide, counts-to, left-by}
 use Rattle.course.proofs.Steps.{by-cond, by-step, drawn-shown, taken-step}
 use Rattle.course.proofs.Fairness.{entry-assorter, entry-tally, sum-const, sum-le, sum-places}

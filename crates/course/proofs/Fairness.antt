@@ -1,5 +1,5 @@
 -- The entry of a drawn card is fair at best to a false claim.
-use Prim.Native.Nat.{ℕ, zero, suc, _+_, _-_, _*_, _/_, _≤_, _<_, max}
+use Prim.Native.Nat.{ℕ, zero, suc, _+_, _-_, _*_, _≤_, _<_, max}
 use mathlib.Core.Path.{_≡_, refl, sym, ap, subst, _∙_}
 use mathlib.Core.Bool.{Bool, true, false, cond}
 use mathlib.Core.List.{List, [], _∷_}
@@ -14,12 +14,12 @@ use Rattle.std.proofs.shelf.Sums.{sumBy-cons, sumBy-more}
 use Rattle.std.proofs.shelf.Tests.{cases-lt}
 use Rattle.chance.specs.Sequences.{places}
 use Rattle.chance.proofs.Counts.{length-places}
-use Rattle.betting.specs.Accounts.{Account, moved, played}
+use Rattle.betting.specs.Accounts.{Account, moved}
 use Rattle.betting.specs.Sums.{settled, stake-of, payoff-of}
 use Rattle.betting.proofs.Pencil.{stake-le}
 use Rattle.course.specs.Terms.{Terms, Shown, blank-card}
 use Rattle.course.specs.Course.{Rules, Lawful, after-entry, shown-value}
-use Rattle.course.specs.Scripts.{Ballot, show-card, show-missing, show-drawn}
+use Rattle.course.specs.Scripts.{Ballot, show-drawn}
 use Rattle.course.specs.Bounds.{Fits}
 use Rattle.course.proofs.Steps.{by-cond}
 

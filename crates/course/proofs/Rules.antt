@@ -1,6 +1,6 @@
 -- What the traits promise is what the bounds and the laws ask.
 use mathlib.Core.List.{List}
-use Prim.Native.Nat.{ℕ, _≤_, _<_}
+use Prim.Native.Nat.{_≤_, _<_}
 use native.Mathlib.Omega.{arith}
 use Rattle.ballot.specs.declared.Card.{Card}
 use Rattle.assorter.specs.Law.{Above, Just-when}

@@ -1,28 +1,24 @@
 -- Laws over runs: draw counts, confirmations, and settled accounts.
-use Prim.Native.Nat.{ℕ, zero, suc, _+_, _*_, _^_, _≤_, _<_, max}
+use Prim.Native.Nat.{ℕ, zero, suc, _+_, _^_, _≤_, _<_}
 use mathlib.Core.Path.{_≡_, refl, sym, ap, subst, _∙_}
 use mathlib.Core.Bool.{Bool, true, false, cond, _&&_}
 use mathlib.Core.List.{List, [], _∷_, map}
 use native.Mathlib.Omega.{arith}
-use lib.Dec.{eqb, leb}
+use lib.Dec.{eqb}
 use lib.ListN.{length, getD, take, drop, length-drop, length-map}
 use Rattle.std.specs.Orderings.{Decides}
 use Rattle.std.specs.shelf.Lists.{All, sum}
 use Rattle.std.proofs.shelf.Sums.{sumBy-cons}
 use Rattle.std.proofs.shelf.Tests.{and-from, and-parts, cond-true}
-use Rattle.refusal.specs.declared.Refusal.{Refusal}
-use Rattle.assorter.specs.Law.{Just-when}
 use Rattle.betting.specs.Accounts.{Account, moved}
-use Rattle.betting.specs.Sums.{risk-of, settled}
+use Rattle.betting.specs.Sums.{settled}
 use Rattle.betting.proofs.Pencil.{settled-pencil}
-use Rattle.verdict.specs.declared.Finding.{Finding}
 use Rattle.verdict.specs.declared.Finding.the-variants.{Confirm, Continue, FullHandCount}
-use Rattle.course.specs.Terms.{Terms, Shown}
-use Rattle.course.specs.Course.{Rules, State, Call, Answer, after-count, after-entry, all-settled, answered, found-by, parts, risks, shown-value, step, worst-risk}
+use Rattle.course.specs.Terms.{Terms}
+use Rattle.course.specs.Course.{Rules, State, Call, after-count, after-entry, all-settled, found-by, parts, risks, shown-value, step, worst-risk}
 use Rattle.course.specs.Course.Call.{entry, verdict, escalation, hand-count, closing}
-use Rattle.course.specs.Course.Answer.{refused, taken, finding, upheld}
-use Rattle.course.specs.Bounds.{Opened}
-use Rattle.course.specs.Laws.{Confirms-by-risk, Counts-draws, Settled-stays, Finds, Same-game, left-by, taken-entries, taken-entry}
+use Rattle.course.specs.Course.Answer.{taken}
+use Rattle.course.specs.Laws.{Confirms-by-risk, Counts-draws, Settled-stays, Same-game, left-by, taken-entries, taken-entry}
 use Rattle.course.proofs.Steps.{by-step}
 use Rattle.course.proofs.Parts.{getD-map}
 

@@ -1,24 +1,24 @@
 -- A call is answered or refused, and what each refusal tells.
-use Prim.Native.Nat.{ℕ, zero, suc, _+_, _-_, _^_, _≤_, _<_}
-use mathlib.Core.Path.{_≡_, refl, sym, ap, _∙_}
-use mathlib.Core.Bool.{Bool, true, false, cond, not, _&&_, _||_}
-use mathlib.Core.List.{List, [], _∷_, map}
+use Prim.Native.Nat.{ℕ, zero, suc, _+_, _-_, _^_, _≤_}
+use mathlib.Core.Path.{_≡_, refl, ap}
+use mathlib.Core.Bool.{Bool, true, false, cond}
+use mathlib.Core.List.{List, [], _∷_}
 use mathlib.Core.Logic.{_⊎_, inl, inr}
 use native.Mathlib.Omega.{arith}
-use lib.Dec.{eqb, leb, ltb}
-use lib.ListN.{length, getD, replicate}
+use lib.Dec.{eqb, ltb}
+use lib.ListN.{getD, replicate}
 use lib.Pow.{pow-pos}
 use Rattle.std.specs.declared.option.Option.{Option}
 use Rattle.std.specs.declared.option.Option.the-variants.{Some, None}
 use Rattle.std.proofs.shelf.Elements.{all-getD}
-use Rattle.std.proofs.shelf.Tests.{and-from, cond-false, eqb-true, lt-ltb, ltb-false, or-from, or-parts}
+use Rattle.std.proofs.shelf.Tests.{and-from, eqb-true, lt-ltb, ltb-false}
 use Rattle.std.proofs.shelf.Ways.{tells}
 use Rattle.refusal.specs.declared.Refusal.{Refusal}
 use Rattle.refusal.specs.declared.Refusal.the-variants.{BadPlace, BadFound, BadMarks, NoDrawsLeft, NotTheNextPlace, CountUnfinished}
 use Rattle.course.specs.Terms.{Terms, Shown, bad-place, bad-marks, blank, blank-card, marks-fit, shown-refusal}
 use Rattle.course.specs.Course.{Rules, State, Call, Answer, answered, first-of, no-draws-left, refusal-of, step, unless-refused}
-use Rattle.course.specs.Course.Call.{entry, verdict, escalation, hand-count, closing}
-use Rattle.course.specs.Course.Answer.{refused, taken, finding, upheld}
+use Rattle.course.specs.Course.Call.{entry, hand-count, closing}
+use Rattle.course.specs.Course.Answer.{refused, taken}
 use Rattle.course.specs.Scripts.{Ballot, show-card, show-drawn, show-missing}
 use Rattle.course.specs.Bounds.{Fits}
 

@@ -1,12 +1,12 @@
 -- Both bounds: a script is a tree of calls in which the account of a false claim plays a fair game.
-use Prim.Native.Nat.{ℕ, zero, suc, _+_, _-_, _*_, _^_, _≤_, _<_, max, zero-le}
+use Prim.Native.Nat.{ℕ, _+_, _-_, _*_, _^_, _≤_, _<_, max, zero-le}
 use mathlib.Core.Path.{_≡_, refl, sym, ap, subst, _∙_}
-use mathlib.Core.Bool.{Bool, true, false, cond, _||_}
+use mathlib.Core.Bool.{Bool, true, false, cond}
 use mathlib.Core.List.{List, [], _∷_, map}
 use mathlib.Core.Logic.{_⊎_, inl, inr, ⊎-elim}
 use native.Mathlib.Nat.{le-max-left, mul-right-comm, mul-comm, mul-le-mul-left, mul-le-mul-right, le-trans, le-of-eq, le-refl}
 use native.Mathlib.Omega.{arith}
-use lib.Dec.{eqb, leb}
+use lib.Dec.{eqb}
 use lib.ListN.{length, getD, take, length-map, List·getD-map}
 use lib.Seq.{take-all}
 use Rattle.std.specs.declared.option.Option.{Option}
@@ -23,18 +23,17 @@ use Rattle.chance.specs.Tree.Tree.{done, call, draw}
 use Rattle.chance.proofs.Counts.{counted-le, length-places, length-sequences}
 use Rattle.chance.proofs.Games.{event-bounded}
 use Rattle.betting.specs.Accounts.{Account, opened}
-use Rattle.betting.specs.Sums.{risk-of}
 use Rattle.betting.proofs.Pencil.{risk-pencil}
-use Rattle.verdict.specs.declared.Finding.{Finding}
 use Rattle.verdict.specs.declared.Finding.the-variants.{Confirm, Continue, FullHandCount}
-use Rattle.course.specs.Terms.{Terms, Shown, blank-card, marks-fit, shown-refusal}
+use Rattle.course.specs.Terms.{Terms, Shown, blank-card}
 use Rattle.course.specs.Course.{Rules, Lawful, State, Call, Answer, after-count, after-entry, all-above, all-settled, answered, course, first-of, no-draws-left, parts, refusal-of, risks, shown-value, step, worst-risk}
 use Rattle.course.specs.Course.Call.{entry, verdict, escalation, hand-count, closing}
-use Rattle.course.specs.Course.Answer.{refused, taken, finding, upheld}
+use Rattle.course.specs.Course.Answer.{refused, taken}
 use Rattle.course.specs.Scripts.{Ballot, Move, Hand, calls, draws-in, hand-call, hand-calls, show-card, show-drawn, show-missing}
 use Rattle.course.specs.Bounds.{Any, accounts-of, Confirms, Contradicted, Fits, Limits-risk, Low-risk, Measures-risk, Opened, Wrong-answer}
 use Rattle.course.specs.Laws.{Never-upholds-wrongly, Upholds-truly}
 use Rattle.course.proofs.Steps.{by-step, closed-all, counted-place, drawn-shown, misread-count, misread-entry, some-not-none, taken-step}
+use Rattle.course.proofs.Deciding.{claim-or-not}
 use Rattle.course.proofs.Fairness.{cards-sum, entry-assorter, entry-fair, entry-highest, entry-rises, entry-tally, sum-const, sum-places-le}
 use Rattle.course.proofs.Parts.{getD-map, In-part, part-above, part-any, part-worst, settled-at}
 
@@ -312,13 +311,6 @@ module _ {A S : Type 0} (R : Rules A S) (t : Terms) (law : Lawful R) (σ : State
       let f = false-at k bad in
       share-bounded k f ms hs (t .limit) _ (λ s met. tree-meets R t b Keeps-all (λ τ e ks k′ f′. keeps-entry k′ f′ τ e (ks k′ f′)) (λ τ h ks k′ f′. keeps-hand k′ f′ τ h (ks k′ f′)) (Wrong-answer R t σ b) _ (λ τ c′ kτ kn q. wrong k f τ c′ kτ q) σ ms hs s (λ k′ f′. start k′ f′) met) m c
 
-  claim-or-not : (x : Account A S) → R .claim (x .assorter) (b .cards) ⊎ (R .claim (x .assorter) (b .cards) → ⊥)
-  claim-or-not x =
-      ⊎-elim
-      (λ above. inl (law .exact (x .assorter) (b .cards) .1 above))
-      (λ low. inr (λ c. omega (arith, low, law .exact (x .assorter) (b .cards) .0 c)))
-      (cases-lt (R .half (x .assorter) * length (b .cards)) (sumBy (R .value (x .assorter)) (b .cards)))
-
   truly : (τ : State A S) (c : Call) → Keeps-all τ → Upholds-truly R t σ b (step R t τ c)
   truly τ (entry e) ks = by-step R t (Upholds-truly R t σ b) τ (entry e) (λ _. tt) (λ _. tt)
   truly τ verdict ks = tt
@@ -330,7 +322,7 @@ module _ {A S : Type 0} (R : Rules A S) (t : Terms) (law : Lawful R) (σ : State
       ⊎-elim
       (λ all. all)
       (λ bad. let g = false-at k bad in absurd (not-upheld R t b law fits _ (g .untrue) (g .j) (g .first) k (g .part) τ (ks k g) ok u))
-      (all-or-any (λ x. R .claim (x .assorter) (b .cards)) claim-or-not (accounts-of R t σ k)))
+      (all-or-any (λ x. R .claim (x .assorter) (b .cards)) (λ x. claim-or-not R law (x .assorter) (b .cards)) (accounts-of R t σ k)))
       (λ _. tt)
 
   pub all-truly : (ms : List (Move t)) (hs : Option (List (Hand t))) (s : List ℕ) → All (Upholds-truly R t σ b) (course R t σ (calls t b ms hs s))

@@ -1,6 +1,6 @@
 -- The calls of an audit: what each answers, and what it leaves.
 use Prim.Native.Nat.{ℕ, _+_, _*_, _≤_, max}
-use mathlib.Core.Bool.{Bool, true, false, cond, _&&_, _||_}
+use mathlib.Core.Bool.{Bool, true, cond, _&&_, _||_}
 use mathlib.Core.List.{List, [], _∷_, map}
 use lib.Dec.{eqb, leb, ltb}
 use lib.ListN.{take, drop}

@@ -1,5 +1,5 @@
 //! What is proved of every audit. The functions only state it.
-ghost use Rattle.course.specs.Bounds.{Limits-risk, Measures-risk};
+ghost use Rattle.course.specs.Bounds.{Counts-exist, Limits-risk, Measures-risk};
 ghost use Rattle.course.specs.Course.{rules-of};
 ghost use Rattle.course.specs.Laws.{Confirms-by-risk, Counts-decide, Counts-draws, Never-upholds-wrongly, Settled-stays};
 use assorter::Assorter;
@@ -11,6 +11,7 @@ use betting::Policy;
 pub fn bounds_stand<A: Assorter, P: Policy>(_assorter: &A, _policy: &P)
     ensures measured { λ _. ⌜ Measures-risk (rules-of A·Assorter P·Policy) ⌝ }
     ensures limited { λ _. ⌜ Limits-risk (rules-of A·Assorter P·Policy) ⌝ }
+    ensures counted { λ _. ⌜ Counts-exist (rules-of A·Assorter P·Policy) ⌝ }
 {}
 
 /// Over every run of calls: a verdict confirms just when each contest's risk is at most the risk

@@ -1,4 +1,5 @@
 use Rattle.course.specs.Course.{Lawful, rules-of}
+use Rattle.course.proofs.Deciding.{counts-exist}
 use Rattle.course.proofs.Rules.{lawful-by}
 use Rattle.course.proofs.Theorem.{limits-risk, measures-risk}
 use Rattle.course.proofs.promises.bounds_stand.Given as given
@@ -12,4 +13,5 @@ pub returns : need.returns
 returns g c = record {
   measured = measures-risk (rules-of (g .A·Assorter) (g .P·Policy)) (lawful g);
   limited = limits-risk (rules-of (g .A·Assorter) (g .P·Policy)) (lawful g);
+  counted = counts-exist (rules-of (g .A·Assorter) (g .P·Policy)) (lawful g);
 }
