@@ -16,7 +16,7 @@ pub enum Outcome {
 }
 
 /// The outcome with this name.
-pub fn outcome_named(word: &str) -> Option<Outcome> {
+pub(crate) fn outcome_named(word: &str) -> Option<Outcome> {
     match word {
         "win" => Some(Outcome::Win),
         "loss" => Some(Outcome::Loss),
@@ -27,7 +27,7 @@ pub fn outcome_named(word: &str) -> Option<Outcome> {
 }
 
 /// The value of the outcome to a test with this half and top.
-pub fn value_of(outcome: Outcome, half: u16, top: u16) -> u16
+pub(crate) fn value_of(outcome: Outcome, half: u16, top: u16) -> u16
     ensures { λ r. ⌜ r ≡ outcome-value outcome half top ⌝ }
 {
     match outcome {

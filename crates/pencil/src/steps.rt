@@ -59,7 +59,7 @@ fn print_step(
 }
 
 /// The assertion's half, top and first bet, its start, and a line for each outcome.
-pub fn print_steps(
+pub(crate) fn print_steps(
     rt: &LibcRuntime,
     number: usize,
     planned: &Planned,

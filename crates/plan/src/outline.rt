@@ -19,7 +19,7 @@ use setup::setup::Setup;
 use std::io;
 
 /// The manifest, with the places of the cards of each batch, and the terms.
-pub fn print_terms(rt: &LibcRuntime, setup: &Setup, batches: &[Batch]) -> io::Result<()> {
+pub(crate) fn print_terms(rt: &LibcRuntime, setup: &Setup, batches: &[Batch]) -> io::Result<()> {
     let cards = Many(setup.cards as usize, "card", "cards");
     let count = Many(setup.batches, "batch", "batches");
     println!(rt, "{cards} in {count}")?;
@@ -126,7 +126,7 @@ fn print_contest(
 }
 
 /// Every contest, with its candidates from the front of those that the contests before it left.
-pub fn print_contests(
+pub(crate) fn print_contests(
     rt: &LibcRuntime,
     contests: &[Contest],
     candidates: &[Candidate],

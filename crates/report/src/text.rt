@@ -17,7 +17,7 @@ pub struct Text {
 }
 
 impl Text {
-    pub fn empty() -> Text
+    pub(crate) fn empty() -> Text
         ensures text { λ r. ⌜ written r ≡ [] ⌝ }
         ensures len { λ r. ⌜ r .len ≡ 0 ⌝ }
     {
@@ -61,7 +61,7 @@ impl Text {
     }
 
     // "contest 1 risk 46", of at most 23 bytes.
-    pub fn risk_line(&mut self, contest: u8, risk: u16)
+    pub(crate) fn risk_line(&mut self, contest: u8, risk: u16)
         requires { ⌜ now self .len + 23 ≤ 256 ⌝ }
         ensures text { λ _. ⌜ written (now (self .exit)) ≡ written (now (self .entry)) ++ risk-line contest risk ⌝ }
         ensures len { λ _. ⌜ now (self .exit) .len ≤ now (self .entry) .len + 23 ⌝ }
@@ -75,7 +75,7 @@ impl Text {
     }
 
     // "draws 17", of at most 12 bytes.
-    pub fn draws_line(&mut self, draws: u16)
+    pub(crate) fn draws_line(&mut self, draws: u16)
         requires { ⌜ now self .len + 12 ≤ 256 ⌝ }
         ensures text { λ _. ⌜ written (now (self .exit)) ≡ written (now (self .entry)) ++ draws-line draws ⌝ }
         ensures len { λ _. ⌜ now (self .exit) .len ≤ now (self .entry) .len + 12 ⌝ }
@@ -87,7 +87,7 @@ impl Text {
     }
 
     // Of at most 16 bytes.
-    pub fn finding_line(&mut self, finding: Finding)
+    pub(crate) fn finding_line(&mut self, finding: Finding)
         requires { ⌜ now self .len + 16 ≤ 256 ⌝ }
         ensures text { λ _. ⌜ written (now (self .exit)) ≡ written (now (self .entry)) ++ finding-line finding ⌝ }
         ensures len { λ _. ⌜ now (self .exit) .len ≤ now (self .entry) .len + 16 ⌝ }
@@ -113,7 +113,7 @@ impl Text {
     }
 
     // "contest 1 upheld", of at most 23 bytes.
-    pub fn outcome_line(&mut self, contest: u8, upheld: bool)
+    pub(crate) fn outcome_line(&mut self, contest: u8, upheld: bool)
         requires { ⌜ now self .len + 23 ≤ 256 ⌝ }
         ensures text { λ _. ⌜ written (now (self .exit)) ≡ written (now (self .entry)) ++ outcome-line contest upheld ⌝ }
         ensures len { λ _. ⌜ now (self .exit) .len ≤ now (self .entry) .len + 23 ⌝ }
@@ -126,7 +126,7 @@ impl Text {
     }
 
     // The text to the front of `out`, or nothing where it does not fit; how many bytes it has.
-    pub fn print(&self, out: &mut [u8]) -> Result<usize, Refusal>
+    pub(crate) fn print(&self, out: &mut [u8]) -> Result<usize, Refusal>
         requires { ⌜ now self .len ≤ 256 ⌝ }
         ensures answer { λ r. ⌜ r ≡ report-answer (written (now (self .entry))) (now (out .entry)) ⌝ }
         ensures out { λ _. ⌜ now (out .exit) ≡ reported (written (now (self .entry))) (now (out .entry)) ⌝ }

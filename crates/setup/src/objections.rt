@@ -24,7 +24,7 @@ const CONTESTS: usize = 8;
 const ASSERTIONS: u16 = 256;
 
 /// The objection to one batch more, after so many batches and cards.
-pub fn to_batch(batches: usize, cards: u16, batch: &Batch) -> Option<Refusal>
+pub(crate) fn to_batch(batches: usize, cards: u16, batch: &Batch) -> Option<Refusal>
     ensures { λ r. ⌜ r ≡ batch-objection batches cards (now (batch .entry)) ⌝ }
 {
     if batch.cards == 0 || batches >= BATCHES || batch.cards > CARDS - cards {
@@ -47,7 +47,7 @@ fn policy_from(policy: u8, weight: u16) -> Option<PolicyChoice>
 }
 
 /// The terms that these operands give, if each is in its range.
-pub fn terms_from(risk_limit: u16, draw_limit: u16, policy: u8, weight: u16) -> Option<Terms>
+pub(crate) fn terms_from(risk_limit: u16, draw_limit: u16, policy: u8, weight: u16) -> Option<Terms>
     ensures { λ r. ⌜ r ≡ terms-from «risk_limit» «draw_limit» policy weight ⌝ }
 {
     let policy = policy_from(policy, weight)?;
@@ -62,7 +62,7 @@ pub fn terms_from(risk_limit: u16, draw_limit: u16, policy: u8, weight: u16) -> 
 }
 
 /// The objection to one contest more, after so many contests and assertions.
-pub fn to_contest(contests: usize, assertions: u16, contest: &Contest) -> Option<Refusal>
+pub(crate) fn to_contest(contests: usize, assertions: u16, contest: &Contest) -> Option<Refusal>
     ensures { λ r. ⌜ r ≡ contest-objection contests assertions (now (contest .entry)) ⌝ }
 {
     if contests >= CONTESTS {
@@ -76,7 +76,7 @@ pub fn to_contest(contests: usize, assertions: u16, contest: &Contest) -> Option
 }
 
 /// Whether the candidate that comes next is the last of its contest.
-pub fn is_last(at: &Progress) -> bool
+pub(crate) fn is_last(at: &Progress) -> bool
     ensures { λ r. ⌜ r ≡ is-last (now (at .entry)) ⌝ }
 {
     u16::from(at.contest.candidates) <= u16::from(at.read) + 1
@@ -109,7 +109,11 @@ fn slate_of(before: &[Candidate], last: &Candidate) -> [Candidate; 256]
 }
 
 /// The objection to one candidate more, after those `before`, of this contest and of earlier ones.
-pub fn to_candidate(at: &Progress, before: &[Candidate], candidate: &Candidate) -> Option<Refusal>
+pub(crate) fn to_candidate(
+    at: &Progress,
+    before: &[Candidate],
+    candidate: &Candidate,
+) -> Option<Refusal>
     ensures { λ r. ⌜ r ≡ candidate-objection (now (at .entry)) (now (before .entry)) (now (candidate .entry)) ⌝ }
 {
     if candidate.votes > at.cards {

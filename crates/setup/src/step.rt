@@ -110,7 +110,7 @@ fn add_candidate(
 }
 
 /// What a command makes of how far the reading has come, and of the three lists.
-pub fn step(
+pub(crate) fn step(
     at: Progress,
     batches: &mut List<'_, Batch>,
     contests: &mut List<'_, Contest>,
