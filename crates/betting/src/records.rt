@@ -1,8 +1,9 @@
 ghost use Rattle.std.specs.Prelude.{◌≤◌};
 
+use std::alloc::AllocError;
+
 /// What is known so far of one assertion: its assorter, its policy, the wealth of the game that is
 /// played on it, the highest wealth so far, and the sum of the values of the hand count.
-#[derive(Clone, Copy)]
 pub struct Record<A, P> {
     pub assorter: A,
     pub policy: P,
@@ -11,3 +12,18 @@ pub struct Record<A, P> {
     pub tally: u32,
     ghost ranges: { (wealth ≤ peak) × (1000000000 ≤ peak) × (peak ≤ 100000000000000) × (tally ≤ 65535000) },
 }
+
+// A struct with type parameters and an invariant derives no `Clone`, which `Copy` asks for.
+impl<A: Copy, P: Copy> Clone for Record<A, P> {
+    ghost use Rattle.std.specs.Prelude.{◌≡◌, ⊤};
+
+    ghost is_clone = { λ x y. y ≡ x };
+
+    ghost is_infallible = { λ _. ⊤ };
+
+    fn clone(&self) -> Result<Record<A, P>, AllocError> {
+        Ok(*self)
+    }
+}
+
+impl<A: Copy, P: Copy> Copy for Record<A, P> {}

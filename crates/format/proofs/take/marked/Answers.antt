@@ -4,7 +4,7 @@ use Rattle.format.proofs.take.marked.Goals as goal
 
 pub returns : goal.returns
 returns c =
-    let k = c.in-ok-marks.ensures.cases in
+    let k = c.in_ok-marks.ensures.cases in
     let long = simp (take_rest, length-drop) at k.2 in
     record {
       long = omega (arith, long, ltb-false);
