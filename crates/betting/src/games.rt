@@ -18,7 +18,7 @@ const LAST_TALLY: u32 = 65_535_000;
 impl<A, P: Policy> Record<A, P> {
     /// The record of an assertion that has seen no card.
     pub fn start(assorter: A, policy: P) -> Record<A, P>
-        ensures { account state result ≡ opened assorter (state policy) }
+        ensures { account P.state result ≡ opened assorter (P.state policy) }
     {
         Record {
             assorter,
@@ -46,7 +46,7 @@ impl<A, P: Policy> Record<A, P> {
 
     /// Adds a card's value to the tally of the hand count.
     pub fn add_to_tally(&mut self, value: u16)
-        ensures { account state self.new ≡ tallied value (account state self.old) }
+        ensures { account P.state self.new ≡ tallied value (account P.state self.old) }
     {
         self.tally = (self.tally + value as u32).min(LAST_TALLY);
     }
@@ -61,8 +61,8 @@ pub fn play<A: Copy, P: Policy + Copy>(
     value: u16,
     risk_limit: u16,
 )
-    ensures moves { account state held.new ≡ cut (played bets told half value risk_limit (account state held.old)) }
-    ensures rules { InRange value risk_limit → account state held.new ≡ played bets told half value risk_limit (account state held.old) }
+    ensures moves { account P.state held.new ≡ cut (played P.bets P.told half value risk_limit (account P.state held.old)) }
+    ensures rules { InRange value risk_limit → account P.state held.new ≡ played P.bets P.told half value risk_limit (account P.state held.old) }
 {
     if held.is_settled(risk_limit) {
         return;

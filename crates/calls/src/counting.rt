@@ -24,7 +24,7 @@ impl HandCount {
         found: u8,
         card: &Card,
     ) -> Option<Refusal>
-        ensures { result ≡ first_refusal (terms_of self.now.terms) (length records.now) (count_state self.now (map (account state) records.now)) (hand_count (shown place found card.now)) }
+        ensures { result ≡ first_refusal (terms_of self.now.terms) (length records.now) (count_state self.now (map (account P.state) records.now)) (hand_count (shown place found card.now)) }
     {
         let terms = self.terms;
         if records.len() < terms.needed {
@@ -49,7 +49,7 @@ impl HandCount {
         found: u8,
         card: &Card,
     ) -> Result<(), Refusal>
-        ensures course { (count_state self.new (map (account state) records.new), taken_or result) ≡ called (rules_of A.Assorter P.Policy) (terms_of self.old.terms) (length records.old) (count_state self.old (map (account state) records.old)) (hand_count (shown place found card.now)) }
+        ensures course { (count_state self.new (map (account P.state) records.new), taken_or result) ≡ called (rules_of A.Assorter P.Policy) (terms_of self.old.terms) (length records.old) (count_state self.old (map (account P.state) records.old)) (hand_count (shown place found card.now)) }
         ensures terms { self.new.terms ≡ self.old.terms }
         ensures beyond { drop self.old.terms.needed records.new ≡ drop self.old.terms.needed records.old }
         ensures kept { (KeptOnRefusal result self.old self.new) × (KeptOnRefusal result records.old records.new) }
@@ -69,7 +69,7 @@ impl HandCount {
         &self,
         records: &[Record<A, P>],
     ) -> Result<Closing, Refusal>
-        ensures course { (count_state self.now (map (account state) records.now), upheld_or result) ≡ called (rules_of A.Assorter P.Policy) (terms_of self.now.terms) (length records.now) (count_state self.now (map (account state) records.now)) closing }
+        ensures course { (count_state self.now (map (account P.state) records.now), upheld_or result) ≡ called (rules_of A.Assorter P.Policy) (terms_of self.now.terms) (length records.now) (count_state self.now (map (account P.state) records.now)) closing }
         ensures rest { UpheldAlone result }
     {
         let terms = self.terms;

@@ -20,7 +20,7 @@ impl Audit {
     /// Whether no assertion wants a draw, or the draws are spent.
     fn is_spent<A, P: Policy>(&self, records: &[Record<A, P>]) -> bool
         requires { self.now.terms.needed ≤ length records.now }
-        ensures { result ≡ no_draws_left (terms_of self.now.terms) (audit_state self.now (map (account state) records.now)) }
+        ensures { result ≡ no_draws_left (terms_of self.now.terms) (audit_state self.now (map (account P.state) records.now)) }
     {
         let terms = self.terms;
         all_settled(records, terms.needed, terms.risk_limit) || self.drawn >= terms.draw_limit
@@ -34,7 +34,7 @@ impl Audit {
         found: u8,
         card: &Card,
     ) -> Option<Refusal>
-        ensures { result ≡ first_refusal (terms_of self.now.terms) (length records.now) (audit_state self.now (map (account state) records.now)) (entry (shown place found card.now)) }
+        ensures { result ≡ first_refusal (terms_of self.now.terms) (length records.now) (audit_state self.now (map (account P.state) records.now)) (entry (shown place found card.now)) }
     {
         let terms = self.terms;
         if records.len() < terms.needed {
@@ -59,7 +59,7 @@ impl Audit {
         found: u8,
         card: &Card,
     ) -> Result<(), Refusal>
-        ensures course { (audit_state self.new (map (account state) records.new), taken_or result) ≡ called (rules_of A.Assorter P.Policy) (terms_of self.old.terms) (length records.old) (audit_state self.old (map (account state) records.old)) (entry (shown place found card.now)) }
+        ensures course { (audit_state self.new (map (account P.state) records.new), taken_or result) ≡ called (rules_of A.Assorter P.Policy) (terms_of self.old.terms) (length records.old) (audit_state self.old (map (account P.state) records.old)) (entry (shown place found card.now)) }
         ensures terms { self.new.terms ≡ self.old.terms }
         ensures beyond { drop self.old.terms.needed records.new ≡ drop self.old.terms.needed records.old }
         ensures kept { (KeptOnRefusal result self.old self.new) × (KeptOnRefusal result records.old records.new) }
@@ -80,7 +80,7 @@ impl Audit {
         &self,
         records: &[Record<A, P>],
     ) -> Result<Verdict, Refusal>
-        ensures course { (audit_state self.now (map (account state) records.now), finding_or result) ≡ called (rules_of A.Assorter P.Policy) (terms_of self.now.terms) (length records.now) (audit_state self.now (map (account state) records.now)) verdict }
+        ensures course { (audit_state self.now (map (account P.state) records.now), finding_or result) ≡ called (rules_of A.Assorter P.Policy) (terms_of self.now.terms) (length records.now) (audit_state self.now (map (account P.state) records.now)) verdict }
         ensures confirms { ConfirmsByRisk self.now.terms.risk_limit result }
         ensures rest { RisksAlone result }
         ensures bounded { DrawsWithin self.now.terms.draw_limit result }
@@ -129,7 +129,7 @@ fn found_by(settled: bool, spent: bool) -> Finding
 /// Whether none of the first `count` records needs more draws at the risk limit.
 fn all_settled<A, P: Policy>(records: &[Record<A, P>], count: usize, limit: u16) -> bool
     requires { count ≤ length records.now }
-    ensures { result ≡ all_settled limit (take count (map (account state) records.now)) }
+    ensures { result ≡ all_settled limit (take count (map (account P.state) records.now)) }
 {
     each_settled(&records[0..count], limit)
 }

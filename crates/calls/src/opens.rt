@@ -112,8 +112,8 @@ pub fn open_with<A: Assorter + Copy, P: Policy + Copy>(
     records: &mut [Record<A, P>],
 ) -> Result<Audit, NotOpened>
     ensures answer { Opens setup contests.now candidates.now (any_fewer setup.assertions assorters.now policies.now records.old) result }
-    ensures begun { BegunIfOpened (rules_of A.Assorter P.Policy) setup contests.now (map (account state) records.new) result }
-    ensures accounts { StartsWith setup.assertions assorters.now (map state policies.now) (map (account state) records.new) result }
+    ensures begun { BegunIfOpened (rules_of A.Assorter P.Policy) setup contests.now (map (account P.state) records.new) result }
+    ensures accounts { StartsWith setup.assertions assorters.now (map P.state policies.now) (map (account P.state) records.new) result }
     ensures others { KeepsOthers setup.assertions records.old records.new result }
 {
     if !holds_setup(&setup, contests, candidates) {

@@ -22,7 +22,7 @@ fn draw<A: Assorter + Copy, P: Policy + Copy>(
     records: &mut [Record<A, P>],
     call: DrawCall,
 ) -> Answer
-    ensures course { (audit_state audit.new (map (account state) records.new), answer_of result) ≡ called (rules_of A.Assorter P.Policy) (terms_of audit.old.terms) (length records.old) (audit_state audit.old (map (account state) records.old)) (draw_call call) }
+    ensures course { (audit_state audit.new (map (account P.state) records.new), answer_of result) ≡ called (rules_of A.Assorter P.Policy) (terms_of audit.old.terms) (length records.old) (audit_state audit.old (map (account P.state) records.old)) (draw_call call) }
     ensures terms { audit.new.terms ≡ audit.old.terms }
     ensures beyond { drop audit.old.terms.needed records.new ≡ drop audit.old.terms.needed records.old }
 {
@@ -49,8 +49,8 @@ fn draw_all<A: Assorter + Copy, P: Policy + Copy>(
 )
     requires records { audit.old.terms.needed ≤ length records.old }
     requires places { length calls.now ≤ length answers.old }
-    ensures answers { map answer_of (take (length calls.now) answers.new) ≡ answers_by (rules_of A.Assorter P.Policy) (terms_of audit.old.terms) (audit_state audit.old (map (account state) records.old)) (map draw_call calls.now) }
-    ensures left { audit_state audit.new (map (account state) records.new) ≡ left_by (rules_of A.Assorter P.Policy) (terms_of audit.old.terms) (audit_state audit.old (map (account state) records.old)) (map draw_call calls.now) }
+    ensures answers { map answer_of (take (length calls.now) answers.new) ≡ answers_by (rules_of A.Assorter P.Policy) (terms_of audit.old.terms) (audit_state audit.old (map (account P.state) records.old)) (map draw_call calls.now) }
+    ensures left { audit_state audit.new (map (account P.state) records.new) ≡ left_by (rules_of A.Assorter P.Policy) (terms_of audit.old.terms) (audit_state audit.old (map (account P.state) records.old)) (map draw_call calls.now) }
     ensures terms { audit.new.terms ≡ audit.old.terms }
     ensures beyond { drop audit.old.terms.needed records.new ≡ drop audit.old.terms.needed records.old }
     ensures places { drop (length calls.now) answers.new ≡ drop (length calls.now) answers.old }
@@ -67,7 +67,7 @@ fn tally<A: Assorter + Copy, P: Policy + Copy>(
     records: &mut [Record<A, P>],
     call: CountCall,
 ) -> Answer
-    ensures course { (count_state hand.new (map (account state) records.new), answer_of result) ≡ called (rules_of A.Assorter P.Policy) (terms_of hand.old.terms) (length records.old) (count_state hand.old (map (account state) records.old)) (count_call call) }
+    ensures course { (count_state hand.new (map (account P.state) records.new), answer_of result) ≡ called (rules_of A.Assorter P.Policy) (terms_of hand.old.terms) (length records.old) (count_state hand.old (map (account P.state) records.old)) (count_call call) }
     ensures terms { hand.new.terms ≡ hand.old.terms }
     ensures beyond { drop hand.old.terms.needed records.new ≡ drop hand.old.terms.needed records.old }
 {
@@ -94,8 +94,8 @@ fn tally_all<A: Assorter + Copy, P: Policy + Copy>(
 )
     requires records { hand.old.terms.needed ≤ length records.old }
     requires places { length calls.now ≤ length answers.old }
-    ensures answers { map answer_of (take (length calls.now) answers.new) ≡ answers_by (rules_of A.Assorter P.Policy) (terms_of hand.old.terms) (count_state hand.old (map (account state) records.old)) (map count_call calls.now) }
-    ensures left { count_state hand.new (map (account state) records.new) ≡ left_by (rules_of A.Assorter P.Policy) (terms_of hand.old.terms) (count_state hand.old (map (account state) records.old)) (map count_call calls.now) }
+    ensures answers { map answer_of (take (length calls.now) answers.new) ≡ answers_by (rules_of A.Assorter P.Policy) (terms_of hand.old.terms) (count_state hand.old (map (account P.state) records.old)) (map count_call calls.now) }
+    ensures left { count_state hand.new (map (account P.state) records.new) ≡ left_by (rules_of A.Assorter P.Policy) (terms_of hand.old.terms) (count_state hand.old (map (account P.state) records.old)) (map count_call calls.now) }
     ensures terms { hand.new.terms ≡ hand.old.terms }
     ensures beyond { drop hand.old.terms.needed records.new ≡ drop hand.old.terms.needed records.old }
     ensures places { drop (length calls.now) answers.new ≡ drop (length calls.now) answers.old }
@@ -115,8 +115,8 @@ fn escalate_and_tally<A: Assorter + Copy, P: Policy + Copy>(
 ) -> HandCount
     requires records { audit.terms.needed ≤ length records.old }
     requires places { length calls.now < length answers.old }
-    ensures answers { map answer_of (take (length calls.now + 1) answers.new) ≡ answers_by (rules_of A.Assorter P.Policy) (terms_of audit.terms) (audit_state audit (map (account state) records.old)) (escalation ∷ map count_call calls.now) }
-    ensures left { count_state result (map (account state) records.new) ≡ left_by (rules_of A.Assorter P.Policy) (terms_of audit.terms) (audit_state audit (map (account state) records.old)) (escalation ∷ map count_call calls.now) }
+    ensures answers { map answer_of (take (length calls.now + 1) answers.new) ≡ answers_by (rules_of A.Assorter P.Policy) (terms_of audit.terms) (audit_state audit (map (account P.state) records.old)) (escalation ∷ map count_call calls.now) }
+    ensures left { count_state result (map (account P.state) records.new) ≡ left_by (rules_of A.Assorter P.Policy) (terms_of audit.terms) (audit_state audit (map (account P.state) records.old)) (escalation ∷ map count_call calls.now) }
     ensures terms { result.terms ≡ audit.terms }
     ensures beyond { drop audit.terms.needed records.new ≡ drop audit.terms.needed records.old }
     ensures places { drop (length calls.now + 1) answers.new ≡ drop (length calls.now + 1) answers.old }
@@ -170,7 +170,7 @@ fn play_all<A: Assorter + Copy, P: Policy + Copy>(
     requires records { audit.terms.needed ≤ length records.old }
     requires places { length (all_calls before.now later) ≤ length answers.old }
     ensures stands { StandsBy later.entry result }
-    ensures course { Conducted (rules_of A.Assorter P.Policy) audit (map (account state) records.old) (all_calls before.now later.entry) result (map (account state) records.new) answers.new }
+    ensures course { Conducted (rules_of A.Assorter P.Policy) audit (map (account P.state) records.old) (all_calls before.now later.entry) result (map (account P.state) records.new) answers.new }
     ensures beyond { drop audit.terms.needed records.new ≡ drop audit.terms.needed records.old }
     ensures places { drop (length (all_calls before.now later.entry)) answers.new ≡ drop (length (all_calls before.now later.entry)) answers.old }
 {
@@ -198,11 +198,11 @@ pub fn conduct<A: Assorter + Copy, P: Policy + Copy>(
     answers: &mut [Answer],
 ) -> Result<Standing, NotConducted>
     ensures refusal { not_conducted result ≡ conduct_refusal (terms_of audit.terms) (length records.old) (length answers.old) (all_calls before.now later.entry) }
-    ensures course { Conducts (rules_of A.Assorter P.Policy) audit (map (account state) records.old) (all_calls before.now later.entry) result (map (account state) records.new) answers.new }
+    ensures course { Conducts (rules_of A.Assorter P.Policy) audit (map (account P.state) records.old) (all_calls before.now later.entry) result (map (account P.state) records.new) answers.new }
     ensures stands { StandsIfConducted later.entry result }
     ensures beyond { (drop audit.terms.needed records.new ≡ drop audit.terms.needed records.old) × (drop (length (all_calls before.now later.entry)) answers.new ≡ drop (length (all_calls before.now later.entry)) answers.old) }
     ensures kept { (KeptUnless result records.old records.new) × (KeptUnless result answers.old answers.new) }
-    ensures promise { Promised (rules_of A.Assorter P.Policy) (terms_of audit.terms) (audit_state audit (map (account state) records.old)) }
+    ensures promise { Promised (rules_of A.Assorter P.Policy) (terms_of audit.terms) (audit_state audit (map (account P.state) records.old)) }
 {
     if let Some(refusal) = conduct_refusal(&audit, records, before, later, answers) {
         return Err(NotConducted { refusal, audit });

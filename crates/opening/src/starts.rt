@@ -40,7 +40,7 @@ pub fn start_with<A: Copy, P: Policy + Copy>(
     records: &mut [Record<A, P>],
 ) -> Result<(), Refusal>
     ensures answer { result ≡ start_answer (any_fewer count assorters.now policies.now records.old) }
-    ensures accounts { map (account state) records.new ≡ after_start (any_fewer count assorters.now policies.now records.old) count (take count (started assorters.now (map state policies.now))) (map (account state) records.old) }
+    ensures accounts { map (account P.state) records.new ≡ after_start (any_fewer count assorters.now policies.now records.old) count (take count (started assorters.now (map P.state policies.now))) (map (account P.state) records.old) }
     ensures beyond { drop count records.new ≡ drop count records.old }
     ensures refused { RefusedUnchanged result records.old records.new }
 {

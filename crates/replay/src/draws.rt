@@ -59,7 +59,7 @@ fn follow_commands<A: Assorter + Copy, P: Policy + Copy>(
 ) -> Replayed
     requires room { audit.terms.needed ≤ length records.old }
     requires places { length file.now ≤ length answers.old }
-    ensures replays { Replays (rules_of A.Assorter P.Policy) (terms_of audit.terms) (audit_state audit (map (account state) records.old)) file.now (map answer_of (take result.answered answers.new)) result.fault result.standing (standing_state result.standing (map (account state) records.new)) }
+    ensures replays { Replays (rules_of A.Assorter P.Policy) (terms_of audit.terms) (audit_state audit (map (account P.state) records.old)) file.now (map answer_of (take result.answered answers.new)) result.fault result.standing (standing_state result.standing (map (account P.state) records.new)) }
     ensures terms { standing_terms result.standing ≡ audit.terms }
     ensures records { drop audit.terms.needed records.new ≡ drop audit.terms.needed records.old }
     ensures answers { drop result.answered answers.new ≡ drop result.answered answers.old }
@@ -105,12 +105,12 @@ pub fn replay<A: Assorter + Copy, P: Policy + Copy>(
     file: &[u8],
     answers: &mut [Answer],
 ) -> Replayed
-    ensures replays { HasRoom (terms_of audit.terms) (length records.old) file.now (length answers.old) → Replays (rules_of A.Assorter P.Policy) (terms_of audit.terms) (audit_state audit (map (account state) records.old)) file.now (map answer_of (take result.answered answers.new)) result.fault result.standing (standing_state result.standing (map (account state) records.new)) }
+    ensures replays { HasRoom (terms_of audit.terms) (length records.old) file.now (length answers.old) → Replays (rules_of A.Assorter P.Policy) (terms_of audit.terms) (audit_state audit (map (account P.state) records.old)) file.now (map answer_of (take result.answered answers.new)) result.fault result.standing (standing_state result.standing (map (account P.state) records.new)) }
     ensures unread { (HasRoom (terms_of audit.terms) (length records.old) file.now (length answers.old) → ⊥) → Unread audit result.answered result.fault result.standing records.old records.new answers.old answers.new }
     ensures terms { standing_terms result.standing ≡ audit.terms }
     ensures beyond { (drop audit.terms.needed records.new ≡ drop audit.terms.needed records.old) × (drop result.answered answers.new ≡ drop result.answered answers.old) }
     ensures within { result.answered ≤ length file.now }
-    ensures promise { Promised (rules_of A.Assorter P.Policy) (terms_of audit.terms) (audit_state audit (map (account state) records.old)) }
+    ensures promise { Promised (rules_of A.Assorter P.Policy) (terms_of audit.terms) (audit_state audit (map (account P.state) records.old)) }
 {
     if records.len() < audit.records_needed() || answers.len() < file.len() {
         return stopped(Standing::Drawing(audit), 0, file, file, Refusal::NoRoom);

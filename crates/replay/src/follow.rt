@@ -36,7 +36,7 @@ fn draw<A: Assorter + Copy, P: Policy + Copy>(
 ) -> Result<Answer, Refusal>
     requires order { allowed Drawing (code (meant command)) ≡ true }
     requires room { audit.old.terms.needed ≤ length records.old }
-    ensures course { Asked (rules_of A.Assorter P.Policy) (terms_of audit.old.terms) (audit_state audit.old (map (account state) records.old)) (call_of (meant command.entry)) (audit_state audit.new (map (account state) records.new), answer_or result) }
+    ensures course { Asked (rules_of A.Assorter P.Policy) (terms_of audit.old.terms) (audit_state audit.old (map (account P.state) records.old)) (call_of (meant command.entry)) (audit_state audit.new (map (account P.state) records.new), answer_or result) }
     ensures accepts { AcceptsOr result }
     ensures terms { audit.new.terms ≡ audit.old.terms }
     ensures beyond { drop audit.old.terms.needed records.new ≡ drop audit.old.terms.needed records.old }
@@ -64,7 +64,7 @@ fn tally<A: Assorter + Copy, P: Policy + Copy>(
 ) -> Result<Answer, Refusal>
     requires order { allowed Counting (code (meant command)) ≡ true }
     requires room { hand.old.terms.needed ≤ length records.old }
-    ensures course { Asked (rules_of A.Assorter P.Policy) (terms_of hand.old.terms) (count_state hand.old (map (account state) records.old)) (call_of (meant command.entry)) (count_state hand.new (map (account state) records.new), answer_or result) }
+    ensures course { Asked (rules_of A.Assorter P.Policy) (terms_of hand.old.terms) (count_state hand.old (map (account P.state) records.old)) (call_of (meant command.entry)) (count_state hand.new (map (account P.state) records.new), answer_or result) }
     ensures accepts { AcceptsOr result }
     ensures terms { hand.new.terms ≡ hand.old.terms }
     ensures beyond { drop hand.old.terms.needed records.new ≡ drop hand.old.terms.needed records.old }
@@ -91,7 +91,7 @@ pub(crate) fn follow<A: Assorter + Copy, P: Policy + Copy>(
 ) -> (Standing, Result<Answer, Refusal>)
     requires order { allowed (standing_phase standing) (code (meant command)) ≡ true }
     requires room { (standing_terms standing).needed ≤ length records.old }
-    ensures course { Asked (rules_of A.Assorter P.Policy) (terms_of (standing_terms standing)) (standing_state standing (map (account state) records.old)) (call_of (meant command.entry)) (standing_state result.0 (map (account state) records.new), answer_or result.1) }
+    ensures course { Asked (rules_of A.Assorter P.Policy) (terms_of (standing_terms standing)) (standing_state standing (map (account P.state) records.old)) (call_of (meant command.entry)) (standing_state result.0 (map (account P.state) records.new), answer_or result.1) }
     ensures accepts { AcceptsOr result.1 }
     ensures stands { StandsAfter result.1 (phase_after (standing_phase standing) (meant command.entry)) result.0 }
     ensures terms { standing_terms result.0 ≡ standing_terms standing }

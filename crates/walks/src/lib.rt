@@ -10,7 +10,7 @@ use betting::{Policy, Record, play};
 
 /// Whether no assertion needs more draws at the risk limit.
 pub fn each_settled<A, P: Policy>(records: &[Record<A, P>], limit: u16) -> bool
-    ensures { result ≡ all_settled limit (map (account state) records.now) }
+    ensures { result ≡ all_settled limit (map (account P.state) records.now) }
 {
     for held in records {
         if !held.is_settled(limit) {
@@ -22,7 +22,7 @@ pub fn each_settled<A, P: Policy>(records: &[Record<A, P>], limit: u16) -> bool
 
 /// What the card that is shown is worth; a missing card is worth nothing.
 fn shown_value<A: Assorter>(assorter: &A, found: u8, card: &Card) -> u16
-    ensures is { result ≡ seen values found card.now assorter.now }
+    ensures is { result ≡ seen A.values found card.now assorter.now }
     ensures low { result ≤ 1000 }
 {
     if found == 0 {
@@ -39,8 +39,8 @@ pub fn enter_each<A: Assorter + Copy, P: Policy + Copy>(
     found: u8,
     card: &Card,
 )
-    ensures moves { map (account state) records.new ≡ map (entered (rules_of A.Assorter P.Policy) limit (as_found found card.now)) (map (account state) records.old) }
-    ensures rules { 10 ≤ limit → map (account state) records.new ≡ map (after_entry (rules_of A.Assorter P.Policy) limit (as_found found card.now)) (map (account state) records.old) }
+    ensures moves { map (account P.state) records.new ≡ map (entered (rules_of A.Assorter P.Policy) limit (as_found found card.now)) (map (account P.state) records.old) }
+    ensures rules { 10 ≤ limit → map (account P.state) records.new ≡ map (after_entry (rules_of A.Assorter P.Policy) limit (as_found found card.now)) (map (account P.state) records.old) }
 {
     for i in 0..records.len() {
         let held = &mut records[i];
@@ -56,7 +56,7 @@ pub fn count_each<A: Assorter + Copy, P: Policy + Copy>(
     found: u8,
     card: &Card,
 )
-    ensures { map (account state) records.new ≡ map (after_count (rules_of A.Assorter P.Policy) (as_found found card.now)) (map (account state) records.old) }
+    ensures { map (account P.state) records.new ≡ map (after_count (rules_of A.Assorter P.Policy) (as_found found card.now)) (map (account P.state) records.old) }
 {
     for i in 0..records.len() {
         let held = &mut records[i];
@@ -67,7 +67,7 @@ pub fn count_each<A: Assorter + Copy, P: Policy + Copy>(
 
 /// The largest risk of the assertions.
 pub fn worst_risk<A, P: Policy>(records: &[Record<A, P>]) -> u64
-    ensures is { result ≡ worst_risk (map (account state) records.now) }
+    ensures is { result ≡ worst_risk (map (account P.state) records.now) }
     ensures low { result ≤ 1000 }
 {
     let mut worst = 0;
@@ -79,7 +79,7 @@ pub fn worst_risk<A, P: Policy>(records: &[Record<A, P>]) -> u64
 
 /// Whether each assertion's tally is above a half for each of the cards.
 pub fn all_above<A: Assorter, P: Policy>(records: &[Record<A, P>], cards: u16) -> bool
-    ensures { result ≡ all_above (rules_of A.Assorter P.Policy) cards (map (account state) records.now) }
+    ensures { result ≡ all_above (rules_of A.Assorter P.Policy) cards (map (account P.state) records.now) }
 {
     for held in records {
         if held.assorter.half() as u32 * cards as u32 >= held.tally {

@@ -11,7 +11,7 @@ use walks::{all_above, worst_risk};
 
 /// Each contest's largest risk; past the contests there are zeros.
 pub(crate) fn contest_risks<A, P: Policy>(terms: &Terms, records: &[Record<A, P>]) -> [u16; 8]
-    ensures parts { take terms.now.contests result ≡ map worst_risk (parts (terms_of terms.now).assertions (map (account state) records.now)) }
+    ensures parts { take terms.now.contests result ≡ map worst_risk (parts (terms_of terms.now).assertions (map (account P.state) records.now)) }
     ensures rest { OnlyFirst terms.now.contests 0 result }
 {
     let mut risks = [0; 8];
@@ -30,7 +30,7 @@ pub(crate) fn contests_above<A: Assorter, P: Policy>(
     terms: &Terms,
     records: &[Record<A, P>],
 ) -> [bool; 8]
-    ensures parts { take terms.now.contests result ≡ map (all_above (rules_of A.Assorter P.Policy) terms.now.cards) (parts (terms_of terms.now).assertions (map (account state) records.now)) }
+    ensures parts { take terms.now.contests result ≡ map (all_above (rules_of A.Assorter P.Policy) terms.now.cards) (parts (terms_of terms.now).assertions (map (account P.state) records.now)) }
     ensures rest { OnlyFirst terms.now.contests false result }
 {
     let mut above = [false; 8];
