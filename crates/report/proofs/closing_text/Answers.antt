@@ -14,19 +14,19 @@ loop-i-preserved c = (
       c.loop-i.i
       false
       (written c.loop-i.text)
-      (written c.outcome-line.new.self)
+      (written c.outcome_line.new.self)
       (omega arith)
       c.loop-i.invariant.0
-      c.outcome-line.ensures.text,
+      c.outcome_line.ensures.text,
   omega arith,
   count_more
       (written c.loop-i.text)
-      (written c.outcome-line.new.self)
+      (written c.outcome_line.new.self)
       _
       c.loop-i.i
       c.loop-i.invariant.2
-      c.outcome-line.ensures.lines
-      c.outcome-line.ensures.text,
+      c.outcome_line.ensures.lines
+      c.outcome_line.ensures.text,
 )
 
 pub returns : goal.returns

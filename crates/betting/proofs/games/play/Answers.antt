@@ -11,7 +11,7 @@ returns g c =
     let half = c.args.half in
     let value = c.args.value in
     let limit = c.args.risk_limit in
-    let still = c.if-is-settled.ensures.is in
+    let still = c.if-is_settled.ensures.is in
     record {
       moves = cut_played p.bets p.told half value limit x _ _ _ still ranges.2 (cc) (cc) (cc);
       rules = λ r.

@@ -3,14 +3,14 @@ use Rattle.std.proofs.lemmas.Int.{ints}
 use Rattle.betting.proofs.Quotients.{base_le, divisor_pos, low_bet, high_bet}
 use Rattle.betting.proofs.policies.ShrinkingPolicy.bet.Goals as goal
 
-pub overflow-cast-dividend : goal.overflow-cast-dividend
-overflow-cast-dividend c =
+pub overflow_cast-dividend : goal.overflow_cast-dividend
+overflow_cast-dividend c =
     let s = c.args.self.now in
     let low = base_le s.weight s.first (s.top - s.half) (omega arith) (omega arith) (omega arith) in
     omega (arith, ints)
 
-pub overflow-add-dividend : goal.overflow-add-dividend
-overflow-add-dividend c =
+pub overflow_add-dividend : goal.overflow_add-dividend
+overflow_add-dividend c =
     let s = c.args.self.now in
     let low = base_le s.weight s.first (s.top - s.half) (omega arith) (omega arith) (omega arith) in
     omega (arith, ints)
@@ -22,8 +22,8 @@ returns-then-dividend-lt0 c =
     low_bet (s.weight * s.first * (s.top - s.half)) s.counted s.excess ((s.top - s.half) * (s.weight + s.counted))
     small s.bounds.0 s.bounds.1 s.bounds.2 c.if-dividend-lt0.true
 
-pub nonzero-div-dividend : goal.nonzero-div-dividend
-nonzero-div-dividend c =
+pub nonzero_div-dividend : goal.nonzero_div-dividend
+nonzero_div-dividend c =
     let s = c.args.self.now in
     divisor_pos (s.top - s.half) (s.weight + s.counted) (omega arith) (omega arith)
 

@@ -20,5 +20,5 @@ returns c =
     let b = c.args.out.now in
     record {
       answer = answer_fits t.bytes b t.len (omega arith) (omega arith);
-      out = left_fits t.bytes b c.copy-from-slice.new.self t.len (omega arith) (omega arith) c.copy-from-slice.ensures.after;
+      out = left_fits t.bytes b c.copy_from_slice.new.self t.len (omega arith) (omega arith) c.copy_from_slice.ensures.after;
     }
