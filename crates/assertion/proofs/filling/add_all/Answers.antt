@@ -7,13 +7,13 @@ use Rattle.assertion.proofs.filling.add_all.Goals as goal
 pub loop-number-init : goal.loop-number-init
 loop-number-init c = (toward_none c.args.out.now.len c.args.out.now.slots.now _, c.requires.stood, omega arith, refl)
 
-pub slice-bounds-add-contest-end : goal.slice-bounds-add-contest-end
-slice-bounds-add-contest-end c =
+pub slice_bounds-add_contest-end : goal.slice_bounds-add_contest-end
+slice_bounds-add_contest-end c =
     part_within c.args.contests.now c.args.candidates.now c.loop-number.number c.loop-number.at
     c.loop-number-test.true c.loop-number.invariant.2 c.loop-number.invariant.1
 
-pub add-contest-requires : goal.add-contest-requires
-add-contest-requires c =
+pub add_contest-requires : goal.add_contest-requires
+add_contest-requires c =
     let xs = c.args.contests.now in
     let cs = c.args.candidates.now in
     let i = c.loop-number.number in
@@ -38,11 +38,11 @@ loop-number-preserved c =
     let h = c.loop-number-test.true in
     let x = contest_at xs i in
     let k : at + x.candidates - at ≡ x.candidates = omega arith in
-    let e = simp k at c.add-contest.ensures.holds in (
+    let e = simp k at c.add_contest.ensures.holds in (
       toward_more _ _ _ (planned_of i x (take x.candidates (drop at cs))) _ _ _ inv.0 (planned_here xs cs i at h) e,
       (stand_parts xs cs i at h inv.1).1,
       part_within xs cs i at h inv.2 inv.1,
-      c.add-contest.ensures.lender ∙ inv.3,
+      c.add_contest.ensures.lender ∙ inv.3,
     )
 
 pub returns : goal.returns

@@ -14,7 +14,7 @@ loop-winner-preserved c =
     let x = c.args.contest.now in
     let cs = c.args.candidates.now in
     let i = c.loop-winner.winner in
-    let f = pairs_under c.args.number c.args.most-marks x cs in
+    let f = pairs_under c.args.number c.args.most_marks x cs in
     let rest = flat_map f (winners_from x cs (i + 1)) in
     let inv = c.loop-winner.invariant in
     let h = c.loop-winner-test.true in
@@ -22,18 +22,18 @@ loop-winner-preserved c =
       | then-wins w ↦
           let e = ap (flat_map f) (winners_next x cs i h w.if-wins.ensures) in
           rw w.out-is
-          (toward_more _ _ _ (f i) _ rest _ inv.0 e w.add-under.ensures.holds, w.add-under.ensures.lender ∙ inv.1)
+          (toward_more _ _ _ (f i) _ rest _ inv.0 e w.add_under.ensures.holds, w.add_under.ensures.lender ∙ inv.1)
       | else-wins w ↦
           let e = ap (flat_map f) (winners_skip x cs i h w.if-wins.ensures) in
           rw w.out-is (toward_skip _ _ _ rest _ inv.0 e, inv.1)
     ]
 
-pub add-under-requires : goal.add-under-requires
-add-under-requires c =
+pub add_under-requires : goal.add_under-requires
+add_under-requires c =
     let x = c.args.contest.now in
     let cs = c.args.candidates.now in
     let i = c.loop-winner.winner in
-    let f = pairs_under c.args.number c.args.most-marks x cs in
+    let f = pairs_under c.args.number c.args.most_marks x cs in
     let rest = flat_map f (winners_from x cs (i + 1)) in
     let e = ap (flat_map f) (winners_next x cs i c.loop-winner-test.true c.if-wins.ensures) in
     record {
@@ -47,6 +47,6 @@ pub returns : goal.returns
 returns c =
     let x = c.args.contest.now in
     let cs = c.args.candidates.now in
-    let f = pairs_under c.args.number c.args.most-marks x cs in
+    let f = pairs_under c.args.number c.args.most_marks x cs in
     let e = ap (flat_map f) (winners_end x cs c.loop-winner.winner c.loop-winner-test.false) in
     record { holds = toward_all _ _ _ _ c.loop-winner.invariant.0 e; lender = c.loop-winner.invariant.1 }

@@ -9,7 +9,7 @@ use Rattle.assertion.proofs.filling.add_pairs.Given as goal
 abbrev pub invariant-loop-winner : goal.invariant-loop-winner
 invariant-loop-winner l =
     Toward (held l.initial.out) (held l.out)
-    (flat_map (pairs_under l.number l.most-marks l.contest l.candidates)
+    (flat_map (pairs_under l.number l.most_marks l.contest l.candidates)
     (winners_from l.contest l.candidates l.winner))
-    (pairs_of l.number l.most-marks l.contest l.candidates)
+    (pairs_of l.number l.most_marks l.contest l.candidates)
     × (l.out.slots.ghost_name ≡ l.initial.out.slots.ghost_name)

@@ -21,7 +21,7 @@ loop-winner-preserved c =
       | then-wins w ↦
           let e =
           ap (map f) (winners_next x cs i h w.if-wins.ensures)
-          ∙ ap (λ p. p ∷ rest) (sym w.planned-share-planned.ensures) in
+          ∙ ap (λ p. p ∷ rest) (sym w.planned_share-planned.ensures) in
           rw w.out-is
           (toward_more _ _ _ _ _ rest _ inv.0 e w.add.ensures.holds, w.add.ensures.lender ∙ inv.1)
       | else-wins w ↦
@@ -38,8 +38,8 @@ add-requires c =
     let rest = map f (winners_from x cs (i + 1)) in
     let e =
     ap (map f) (winners_next x cs i c.loop-winner-test.true c.if-wins.ensures)
-    ∙ ap (λ p. p ∷ rest) (sym c.planned-share-planned.ensures) in
-    toward_room _ _ (meant c.planned-share-planned.result ∷ []) _ rest _ c.loop-winner.invariant.0 e c.requires.room
+    ∙ ap (λ p. p ∷ rest) (sym c.planned_share-planned.ensures) in
+    toward_room _ _ (meant c.planned_share-planned.result ∷ []) _ rest _ c.loop-winner.invariant.0 e c.requires.room
 
 pub returns : goal.returns
 returns c =

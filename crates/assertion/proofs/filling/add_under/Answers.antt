@@ -13,7 +13,7 @@ loop-loser-preserved c =
     let x = c.args.contest.now in
     let cs = c.args.candidates.now in
     let i = c.loop-loser.loser in
-    let f = pair_plan c.args.number c.args.most-marks cs c.args.winner in
+    let f = pair_plan c.args.number c.args.most_marks cs c.args.winner in
     let rest = map f (losers_from x cs (i + 1)) in
     let inv = c.loop-loser.invariant in
     let h = c.loop-loser-test.true in
@@ -21,7 +21,7 @@ loop-loser-preserved c =
       | then-not-wins w ↦
           let e =
           ap (map f) (losers_next x cs i h w.if-not-wins.ensures)
-          ∙ ap (λ p. p ∷ rest) (sym w.planned-pair-planned.ensures) in
+          ∙ ap (λ p. p ∷ rest) (sym w.planned_pair-planned.ensures) in
           rw w.out-is
           (toward_more _ _ _ _ _ rest _ inv.0 e w.add.ensures.holds, w.add.ensures.lender ∙ inv.1)
       | else-not-wins w ↦
@@ -34,17 +34,17 @@ add-requires c =
     let x = c.args.contest.now in
     let cs = c.args.candidates.now in
     let i = c.loop-loser.loser in
-    let f = pair_plan c.args.number c.args.most-marks cs c.args.winner in
+    let f = pair_plan c.args.number c.args.most_marks cs c.args.winner in
     let rest = map f (losers_from x cs (i + 1)) in
     let e =
     ap (map f) (losers_next x cs i c.loop-loser-test.true c.if-not-wins.ensures)
-    ∙ ap (λ p. p ∷ rest) (sym c.planned-pair-planned.ensures) in
-    toward_room _ _ (meant c.planned-pair-planned.result ∷ []) _ rest _ c.loop-loser.invariant.0 e c.requires.room
+    ∙ ap (λ p. p ∷ rest) (sym c.planned_pair-planned.ensures) in
+    toward_room _ _ (meant c.planned_pair-planned.result ∷ []) _ rest _ c.loop-loser.invariant.0 e c.requires.room
 
 pub returns : goal.returns
 returns c =
     let x = c.args.contest.now in
     let cs = c.args.candidates.now in
-    let f = pair_plan c.args.number c.args.most-marks cs c.args.winner in
+    let f = pair_plan c.args.number c.args.most_marks cs c.args.winner in
     let e = ap (map f) (losers_end x cs c.loop-loser.loser c.loop-loser-test.false) in
     record { holds = toward_all _ _ _ _ c.loop-loser.invariant.0 e; lender = c.loop-loser.invariant.1 }

@@ -8,6 +8,6 @@ use Rattle.assertion.proofs.filling.planned_pair.Goals as goal
 pub returns : goal.returns
 returns c =
     let cs = c.args.candidates.now in
-    let w = get_or-map (λ x. x.votes) cs c.args.winner (record { name = []; votes = 0 }) 0 c.requires.2 in
-    let l = get_or-map (λ x. x.votes) cs c.args.loser (record { name = []; votes = 0 }) 0 c.requires.3 in
-    same_bet _ _ _ (simp (w, l) c.pair-bet-first-bet.ensures.is)
+    let w = get_or-map (λ x. x.votes) cs c.args.winner (record { name = []; votes = 0 }) 0 c.requires.winner_in_bounds in
+    let l = get_or-map (λ x. x.votes) cs c.args.loser (record { name = []; votes = 0 }) 0 c.requires.loser_in_bounds in
+    same_bet _ _ _ (simp (w, l) c.pair_bet-first_bet.ensures.is)

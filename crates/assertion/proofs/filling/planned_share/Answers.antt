@@ -6,5 +6,5 @@ use Rattle.assertion.proofs.filling.planned_share.Goals as goal
 pub returns : goal.returns
 returns c =
     let cs = c.args.candidates.now in
-    let w = get_or-map (λ x. x.votes) cs c.args.winner (record { name = []; votes = 0 }) 0 c.requires.3 in
-    same_bet _ _ _ (simp (w, ← c.all-votes.ensures) c.share-bet-first-bet.ensures.is)
+    let w = get_or-map (λ x. x.votes) cs c.args.winner (record { name = []; votes = 0 }) 0 c.requires.winner_in_bounds in
+    same_bet _ _ _ (simp (w, ← c.all_votes.ensures) c.share_bet-first_bet.ensures.is)

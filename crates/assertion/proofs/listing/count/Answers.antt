@@ -10,7 +10,7 @@ loop-contest-preserved c =
     let xs = c.args.contests.now in
     let i = c.loop-contest.contest-index in
     let e = sum_by_more assertion_count xs i (record { kind = Plurality; candidates = 0; seats = 0 }) c.loop-contest-test.true in
-    (omega (arith, e, c.assertion-count.ensures), omega arith)
+    (omega (arith, e, c.assertion_count.ensures), omega arith)
 
 pub returns : goal.returns
 returns c =

@@ -8,13 +8,13 @@ returns-then-end-candidates c =
     sym (inv.0 ∙ too_few c.args.contests.now c.args.candidates.now c.loop-contest.contest-index c.loop-contest.at
     c.loop-contest-test.true inv.1 (omega arith))
 
-pub returns-then-not-contest-stands : goal.returns-then-not-contest-stands
-returns-then-not-contest-stands c =
+pub returns-then-not-contest_stands : goal.returns-then-not-contest_stands
+returns-then-not-contest_stands c =
     let xs = c.args.contests.now in
     let i = c.loop-contest.contest-index in
     let at = c.loop-contest.at in
     let k : at + (contest_at xs i).candidates - at ≡ (contest_at xs i).candidates = omega arith in
-    let e = simp k at c.if-not-contest-stands.ensures in
+    let e = simp k at c.if-not-contest_stands.ensures in
     sym (c.loop-contest.invariant.0 ∙ one_fails xs c.args.candidates.now i at c.loop-contest-test.true e)
 
 pub loop-contest-preserved : goal.loop-contest-preserved
@@ -23,7 +23,7 @@ loop-contest-preserved c =
     let i = c.loop-contest.contest-index in
     let at = c.loop-contest.at in
     let k : at + (contest_at xs i).candidates - at ≡ (contest_at xs i).candidates = omega arith in
-    let e = simp k at c.if-not-contest-stands.ensures in
+    let e = simp k at c.if-not-contest_stands.ensures in
     (c.loop-contest.invariant.0 ∙ one_stands xs c.args.candidates.now i at c.loop-contest-test.true e, omega arith)
 
 pub returns : goal.returns

@@ -13,8 +13,8 @@ returns-then-places-count c =
       lender = refl;
     }
 
-pub add-all-requires : goal.add-all-requires
-add-all-requires c =
+pub add_all-requires : goal.add_all-requires
+add_all-requires c =
     let xs = c.args.contests.now in
     let cs = c.args.candidates.now in
     let s = c.if-not-stand.ensures in
@@ -32,6 +32,6 @@ returns c =
     let before = held c.args.out.now in
     record {
       answer = accepted xs cs s before (omega arith);
-      holds = listed xs cs s before _ c.clear.ensures.holds _ c.add-all.ensures.holds;
-      lender = c.add-all.ensures.lender ∙ c.clear.ensures.lender;
+      holds = listed xs cs s before _ c.clear.ensures.holds _ c.add_all.ensures.holds;
+      lender = c.add_all.ensures.lender ∙ c.clear.ensures.lender;
     }

@@ -9,7 +9,7 @@ pub turns-init : goal.turns-init
 turns-init c =
     let file = c.args.file.now in
     let ls = held_lists c.args.batches.now c.args.contests.now c.args.candidates.now in (
-      subst (λ (p : Progress). Reached (length file) (following ls file) p ls file) (sym c.nothing-read-at.ensures)
+      subst (λ (p : Progress). Reached (length file) (following ls file) p ls file) (sym c.nothing_read-at.ensures)
           (reached_start ls file),
       omega arith,
       refl,
@@ -22,7 +22,7 @@ turns-preserved c =
     let file = c.args.file.now in
     let ls = held_lists c.args.batches.now c.args.contests.now c.args.candidates.now in
     let now = held_lists c.turns.batches c.turns.contests c.turns.candidates in
-    let e : opened c.turns.at.phase ≡ false = sym c.is-opened.ensures ∙ c.turns-test.true in
+    let e : opened c.turns.at.phase ≡ false = sym c.is_opened.ensures ∙ c.turns-test.true in
     let k = c.in-Ok.ensures in (
       reached_on (length file) (following ls file) c.turns.at now c.turns.rest.now c.turns.invariant.0
           (record { progress = c.in-Ok.next; rest = c.in-Ok.after.now })
@@ -40,7 +40,7 @@ returns-in-Err c =
     let ls = held_lists c.args.batches.now c.args.contests.now c.args.candidates.now in
     let now = held_lists c.turns.batches c.turns.contests c.turns.candidates in
     let after = held_lists c.turn.new.batches c.turn.new.contests c.turn.new.candidates in
-    let e : opened c.turns.at.phase ≡ false = sym c.is-opened.ensures ∙ c.turns-test.true in
+    let e : opened c.turns.at.phase ≡ false = sym c.is_opened.ensures ∙ c.turns-test.true in
     let k = c.in-Err.ensures in
     record {
       value =
@@ -57,7 +57,7 @@ returns-then-rest-gt0 c =
     let file = c.args.file.now in
     let ls = held_lists c.args.batches.now c.args.contests.now c.args.candidates.now in
     let now = held_lists c.turns.batches c.turns.contests c.turns.candidates in
-    let e : opened c.turns.at.phase ≡ true = sym c.is-opened.ensures ∙ c.turns-test.false in
+    let e : opened c.turns.at.phase ≡ true = sym c.is_opened.ensures ∙ c.turns-test.false in
     let k = reached_end (length file) (following ls file) c.turns.at now c.turns.rest.now c.turns.invariant.0 e in
     let some : eqb (length c.turns.rest.now) 0 ≡ false = ne_eqb (length c.turns.rest.now) 0 (λ z. omega arith) in
     record {
@@ -72,7 +72,7 @@ returns c =
     let file = c.args.file.now in
     let ls = held_lists c.args.batches.now c.args.contests.now c.args.candidates.now in
     let now = held_lists c.turns.batches c.turns.contests c.turns.candidates in
-    let e : opened c.turns.at.phase ≡ true = sym c.is-opened.ensures ∙ c.turns-test.false in
+    let e : opened c.turns.at.phase ≡ true = sym c.is_opened.ensures ∙ c.turns-test.false in
     let k = reached_end (length file) (following ls file) c.turns.at now c.turns.rest.now c.turns.invariant.0 e in
     let none : eqb (length c.turns.rest.now) 0 ≡ true = eq-eqb (length c.turns.rest.now) 0 (omega arith) in
     record {
