@@ -9,7 +9,7 @@ use ballot::Card;
 
 /// Whether the claim is true of these cards, by their values; 128 bits hold the sum of any slice.
 pub fn holds<A: Assorter>(assorter: &A, cards: &[Card]) -> bool
-    ensures { Decides result (claims assorter.now cards.now) }
+    ensures { Decides result (A.claims assorter.now cards.now) }
 {
     let mut sum: u128 = 0;
     for card in cards {

@@ -95,7 +95,7 @@ impl Assorter for Assertion {
 
     ghost exact = { elim [
       | Pair a ↦ exact_claim (claim_of (Pair a))
-      | Share a ↦ exact-claim (claim-of (Share a))
+      | Share a ↦ exact_claim (claim_of (Share a))
     ] };
 
     fn half(&self) -> u16 {

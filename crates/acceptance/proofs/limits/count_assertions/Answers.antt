@@ -8,7 +8,7 @@ use Rattle.acceptance.proofs.limits.count_assertions.Goals as goal
 pub loop-contest-preserved : goal.loop-contest-preserved
 loop-contest-preserved c =
     let e = sum_by_more assertion_count c.args.contests.now c.loop-contest.contest-index no_contest c.loop-contest-test.true in
-    (omega (arith, e, c.assertion-count.ensures), omega arith)
+    (omega (arith, e, c.assertion_count.ensures), omega arith)
 
 pub returns : goal.returns
 returns c =
