@@ -17,7 +17,7 @@ loop-i-preserved c =
     let x = c.index-planned-i.result in (
       fill_more m (map f xs) (map m c.args.records.now) i rs c.start.result (f x)
           (omega (arith, length-map xs f)) (omega (arith, length-map c.args.records.now m)) c.loop-i.invariant.0
-          (c.start.ensures ∙ ap (opened x.assertion) c.first-policy.ensures)
+          (c.start.ensures ∙ ap (opened x.assertion) c.first_policy.ensures)
           (ap f c.index-planned-i.is ∙ sym (get_or-map f xs i x (f x) (omega arith))),
       drop-set-lt (length xs) rs i c.start.result (omega arith) ∙ c.loop-i.invariant.1,
     )
