@@ -7,4 +7,4 @@ pub mod Runs
 pub mod Closings
 pub mod Rules
 pub mod Openings
-pub mod Promises
+pub mod BoundsAndLaws

@@ -1,7 +1,7 @@
 -- Both bounds: a script is a tree of calls in which the account of a false claim plays a fair game.
 use Rattle.std.proofs.Common.{◌≡◌, ℕ, ◌+◌, ◌-◌, ◌*◌, ◌^◌, ◌<◌, ◌≤◌, max, Bool, true, false, cond, eqb, List, [], ◌∷◌, map, length, get_or, take, Some, None, sum_by, Option, sym, refl, ap, ◌∙◌, subst, inl, inr, ⊎_elim, zero-le, le_trans, le_of_eq, le_refl, mul-le-mul_right, mul_comm, mul-le-mul_left, mul_right_comm, arith, take_all}
 use native.Mathlib.Nat.{le-max_left}
-use lib.ListN
+use Rattle.std.proofs.Math.ListN
 use lib.ListN.{length-map}
 use Rattle.std.specs.List.{AllByRecursion as All}
 use Rattle.std.proofs.ByRecursion.{All-get_or}
@@ -206,7 +206,7 @@ module _ {A S : Type 0} (R : Rules A S) (t : Terms) (b : Ballot) where
     low_risk : (k p : ℕ) → InPart t.assertions k j → (τ : State A S) → Kept τ → get_or (risks t τ) k 0 ≤ p → 1000000000000 ≤ p * (at τ).peak
     low_risk k p i τ kept low =
         (risk_pencil (at τ).peak kept.positive p).0
-        (le_trans (part_worst t.assertions τ.accounts k j x₀ i kept.inside) (subst (λ n. n ≤ p) (ListN.get_d_map worst_risk (parts t.assertions τ.accounts) k []) low))
+        (le_trans (part_worst t.assertions τ.accounts k j x₀ i kept.inside) (subst (λ n. n ≤ p) (ListN.get_or-map worst_risk (parts t.assertions τ.accounts) k []) low))
 
     -- a hand count never upholds the contest
     not_upheld : (k : ℕ) → InPart t.assertions k j → (τ : State A S) → Kept τ → refusal_of t τ closing ≡ None → get_or (map (all_above R t.cards) (parts t.assertions τ.accounts)) k false ≡ true → ⊥

@@ -1,6 +1,6 @@
 use Rattle.std.proofs.Common.{refl}
 use Rattle.course.specs.Course.{rules_of}
-use Rattle.course.proofs.Promises.{promised}
+use Rattle.course.proofs.BoundsAndLaws.{promised}
 use Rattle.course.proofs.Rules.{lawful_by}
 use Rattle.calls.proofs.opens.begin.Goals as goal
 

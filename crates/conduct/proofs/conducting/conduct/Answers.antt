@@ -1,7 +1,7 @@
 use Rattle.std.proofs.Common.{map, refl}
 use Rattle.betting.specs.Accounts.{account}
 use Rattle.course.specs.Course.{Lawful, rules_of}
-use Rattle.course.proofs.Promises.{promised}
+use Rattle.course.proofs.BoundsAndLaws.{promised}
 use Rattle.course.proofs.Rules.{lawful_by}
 use Rattle.calls.specs.Calls.{audit_state}
 use Rattle.calls.specs.Shapes.{terms_of}

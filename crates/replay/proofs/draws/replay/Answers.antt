@@ -4,7 +4,7 @@ use Rattle.refusal.specs.declared.File.TheVariants.{Draws}
 use Rattle.refusal.specs.declared.Refusal.TheVariants.{NoRoom}
 use Rattle.betting.specs.Accounts.{account}
 use Rattle.course.specs.Course.{rules_of}
-use Rattle.course.proofs.Promises.{promised}
+use Rattle.course.proofs.BoundsAndLaws.{promised}
 use Rattle.course.proofs.Rules.{lawful_by}
 use Rattle.calls.specs.Calls.{audit_state}
 use Rattle.calls.specs.Shapes.{terms_of}
