@@ -12,8 +12,8 @@ loop-i-preserved g c =
     let f = after_count (rules_of g.A.Assorter g.P.Policy) (as_found c.args.found c.args.card.now) in
     let r = get_or c.loop-i.records c.loop-i.i c.index-records-i.result in
     front_more m f c.loop-i.i c.loop-i.records (map m c.args.records.now) c.index-records-i.result
-    c.add-to-tally.new.self (omega arith) (omega (arith, length-map c.args.records.now m)) c.loop-i.invariant
-    (c.add-to-tally.ensures ∙ ap (λ v. tallied v (m r)) c.shown-value-value.ensures.is)
+    c.add_to_tally.new.self (omega arith) (omega (arith, length-map c.args.records.now m)) c.loop-i.invariant
+    (c.add_to_tally.ensures ∙ ap (λ v. tallied v (m r)) c.shown_value-value.ensures.is)
 
 pub returns : goal.returns
 returns g c =

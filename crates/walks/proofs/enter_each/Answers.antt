@@ -19,13 +19,13 @@ loop-i-preserved g c =
     let in-xs : i < length xs = omega (arith, length-map c.args.records.now m) in
     let P : ℕ → ℕ → Account g.row.A.Denot p.State = λ half value. played p.bets p.told half value c.args.limit (m r) in
     let same =
-    ap (λ half. P half c.shown-value-value.result) c.half-half.ensures
-    ∙ ap (P (a.halves r.assorter)) c.shown-value-value.ensures.is in (
+    ap (λ half. P half c.shown_value-value.result) c.half-half.ensures
+    ∙ ap (P (a.halves r.assorter)) c.shown_value-value.ensures.is in (
       front_more m (entered (rules_of a p) c.args.limit e) i rs xs c.index-records-i.result c.play.new.held
           (omega arith) in-xs c.loop-i.invariant.0 (c.play.ensures.moves ∙ ap cut same),
       λ h. front_more m (after_entry (rules_of a p) c.args.limit e) i rs xs c.index-records-i.result c.play.new.held
           (omega arith) in-xs (c.loop-i.invariant.1 h)
-          (c.play.ensures.rules (record { low_value = c.shown-value-value.ensures.low; some_limit = h }) ∙ same),
+          (c.play.ensures.rules (record { low_value = c.shown_value-value.ensures.low; some_limit = h }) ∙ same),
     )
 
 pub returns : goal.returns
