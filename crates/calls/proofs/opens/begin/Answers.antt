@@ -7,8 +7,8 @@ use Rattle.calls.proofs.opens.begin.Goals as goal
 pub returns : goal.returns
 returns g c = record {
   terms = record {
-    terms = c.audit-terms.ensures.terms;
-    needed = c.audit-terms.ensures.needed;
+    terms = c.audit_terms.ensures.terms;
+    needed = c.audit_terms.ensures.needed;
     undrawn = refl;
   };
   promise = λ accounts.

@@ -11,11 +11,11 @@ returns c =
     let s = c.args.setup in
     let xs = c.args.contests.now in
     let cs = c.args.candidates.now in
-    let h : HoldsSetup s xs cs = c.if-not-holds-setup.ensures.0 refl in
-    let told = c.in-default.ensures in
-    let accounts = map (account chosen_state) c.start-own.new.records in
+    let h : HoldsSetup s xs cs = c.if-not-holds_setup.ensures.0 refl in
+    let told = c.in_default.ensures in
+    let accounts = map (account chosen_state) c.start_own.new.records in
     record {
-      answer = (h, had_enough (fewer s.assertions c.args.records.now) c.in-default.field-0 told.answer);
+      answer = (h, had_enough (fewer s.assertions c.args.records.now) c.in_default.field-0 told.answer);
       begun = own_begun s xs cs h accounts told.accounts c.begin.result c.begin.ensures.terms
           c.begin.ensures.promise;
       own = own_outcomes s xs cs h accounts told.accounts c.begin.result c.begin.ensures.terms

@@ -14,13 +14,13 @@ returns g c =
     let n = s.assertions in
     let state = g.P.Policy.state in
     let m = account {A = g.row.A.Denot} state in
-    let told = c.in-default.ensures in
-    let new = map m c.start-with.new.records in
-    let enough = had_enough (any_fewer n xs ps rs) c.in-default.field-0 told.answer in
+    let told = c.in_default.ensures in
+    let new = map m c.start_with.new.records in
+    let enough = had_enough (any_fewer n xs ps rs) c.in_default.field-0 told.answer in
     let first : take n new ≡ take n (started xs (map state ps)) =
     with_started state xs ps n rs (map m rs) new enough told.accounts in
     record {
-      answer = (c.if-not-holds-setup.ensures.0 refl, enough);
+      answer = (c.if-not-holds_setup.ensures.0 refl, enough);
       begun =
           begun_by (rules_of g.A.Assorter g.P.Policy) s c.args.contests.now new c.begin.result c.begin.ensures.terms
           c.begin.ensures.promise

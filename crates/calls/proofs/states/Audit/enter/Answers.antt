@@ -10,11 +10,11 @@ use Rattle.calls.proofs.Fronts.{front_written, rest_kept}
 use Rattle.calls.proofs.Refusals.{entry_left}
 use Rattle.calls.proofs.states.Audit.enter.Goals as goal
 
-pub overflow-add-self : goal.overflow-add-self
-overflow-add-self g c =
+pub overflow_add-self : goal.overflow_add-self
+overflow_add-self g c =
     let t = terms_of c.args.self.now.terms in
     let σ = audit_state c.args.self.now (map (account {A = g.row.A.Denot} g.P.Policy.state) c.args.records.now) in
-    let left = entry_left t (length c.args.records.now) σ (shown c.args.place c.args.found c.args.card.now) c.in-default.ensures in
+    let left = entry_left t (length c.args.records.now) σ (shown c.args.place c.args.found c.args.card.now) c.in_default.ensures in
     let most : c.args.self.now.terms.draw_limit ≤ 20000 = search rules in
     record { fits = omega (arith, left.1, most) }
 
@@ -28,20 +28,20 @@ returns g c =
     let R = rules_of g.A.Assorter g.P.Policy in
     let n = c.args.self.now.terms.needed in
     let total : n ≡ sum t.assertions = search rules in
-    let left = entry_left t (length rs) σ e c.in-default.ensures in
-    let ys = c.enter-each.new.records in
+    let left = entry_left t (length rs) σ e c.in_default.ensures in
+    let ys = c.enter_each.new.records in
     let f = after_entry R t.limit e in
     let whole : n - 0 ≡ n = omega arith in
     let as_many : length ys ≡ n =
-    c.enter-each.auto.records ∙ ap (λ k. length (take k rs)) whole ∙ length-take n rs ∙ omega (arith, total, left.0) in
+    c.enter_each.auto.records ∙ ap (λ k. length (take k rs)) whole ∙ length-take n rs ∙ omega (arith, total, left.0) in
     let lowest : 10 ≤ c.args.self.now.terms.risk_limit = search rules in
     let new : map m ys ≡ map f (map m (take n rs)) =
-    c.enter-each.ensures.rules lowest ∙ ap (λ k. map f (map m (take k rs))) whole in
+    c.enter_each.ensures.rules lowest ∙ ap (λ k. map f (map m (take k rs))) whole in
     record {
       course =
           ap (λ xs. (record { accounts = xs; drawn = c.args.self.now.drawn + 1; counted = 0 }, taken))
           (front_written n rs ys as_many m f new)
-          ∙ ap (λ o. unless_refused o σ (answered R t σ (entry e))) c.in-default.ensures;
+          ∙ ap (λ o. unless_refused o σ (answered R t σ (entry e))) c.in_default.ensures;
       terms = refl;
       beyond = rest_kept n rs ys as_many;
       kept = (tt, tt);

@@ -24,27 +24,27 @@ returns g c =
     let R = rules_of g.A.Assorter g.P.Policy in
     let total : n ≡ sum t.assertions = search rules in
     let whole : n - 0 ≡ n = omega arith in
-    let found : c.found-by.result ≡ found_by t σ =
-    c.found-by.ensures
-    ∙ ap (λ b. cond b Confirm (cond (eqb σ.drawn t.draws) FullHandCount Continue)) c.all-settled-settled.ensures in
-    let told : take c.args.self.now.terms.contests c.contest-risks.result ≡ risks t σ =
-    c.contest-risks.ensures.parts
+    let found : c.found_by.result ≡ found_by t σ =
+    c.found_by.ensures
+    ∙ ap (λ b. cond b Confirm (cond (eqb σ.drawn t.draws) FullHandCount Continue)) c.all_settled-settled.ensures in
+    let told : take c.args.self.now.terms.contests c.contest_risks.result ≡ risks t σ =
+    c.contest_risks.ensures.parts
     ∙ ap (λ k. map worst_risk (parts t.assertions (map m (take k rs)))) whole
     ∙ ap (λ xs. map worst_risk (parts t.assertions xs)) (sym (take-map m n rs)) in
     let most : t.limit ≤ 500 = search rules in
     let there : sum t.assertions ≡ length σ.accounts =
     sym total ∙ omega (arith, length-take n (map m rs), length-map rs m, c.if-records-terms.false) in
-    let tells : (step R t σ verdict).1 ≡ finding c.found-by.result σ.drawn (take c.args.self.now.terms.contests c.contest-risks.result) =
-    ap (λ f. finding f σ.drawn (risks t σ)) (sym found) ∙ ap (λ ps. finding c.found-by.result σ.drawn ps) (sym told) in
+    let tells : (step R t σ verdict).1 ≡ finding c.found_by.result σ.drawn (take c.args.self.now.terms.contests c.contest_risks.result) =
+    ap (λ f. finding f σ.drawn (risks t σ)) (sym found) ∙ ap (λ ps. finding c.found_by.result σ.drawn ps) (sym told) in
     record {
       course =
-          ap (λ f. (σ, finding f σ.drawn (take c.args.self.now.terms.contests c.contest-risks.result))) found
+          ap (λ f. (σ, finding f σ.drawn (take c.args.self.now.terms.contests c.contest_risks.result))) found
           ∙ ap (λ ps. (σ, finding (found_by t σ) σ.drawn ps)) told
           ∙ ap (λ o. unless_refused o σ (answered R t σ verdict))
           (sym (enough n (sum t.assertions) (length rs) (Some NoRoom) None total c.if-records-terms.false));
       confirms =
-          confirms_by_risk R t σ there (omega (arith, most)) [] c.found-by.result σ.drawn
-          (take c.args.self.now.terms.contests c.contest-risks.result) tells;
+          confirms_by_risk R t σ there (omega (arith, most)) [] c.found_by.result σ.drawn
+          (take c.args.self.now.terms.contests c.contest_risks.result) tells;
       bounded = search rules;
-      rest = c.contest-risks.ensures.rest;
+      rest = c.contest_risks.ensures.rest;
     }

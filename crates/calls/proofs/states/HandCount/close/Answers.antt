@@ -22,8 +22,8 @@ returns g c =
     let total : n ≡ sum t.assertions = search rules in
     let whole : n - 0 ≡ n = omega arith in
     let finished : t.cards ≤ σ.counted = search rules in
-    let told : take c.args.self.now.terms.contests c.contests-above.result ≡ map (all_above R t.cards) (parts t.assertions σ.accounts) =
-    c.contests-above.ensures.parts
+    let told : take c.args.self.now.terms.contests c.contests_above.result ≡ map (all_above R t.cards) (parts t.assertions σ.accounts) =
+    c.contests_above.ensures.parts
     ∙ ap (λ k. map (all_above R t.cards) (parts t.assertions (map m (take k rs)))) whole
     ∙ ap (λ xs. map (all_above R t.cards) (parts t.assertions xs)) (sym (take-map m n rs)) in
     record {
@@ -32,5 +32,5 @@ returns g c =
           ∙ ap (λ b. unless_refused (cond b (Some CountUnfinished) None) σ (answered R t σ closing)) (sym (le-ltb σ.counted t.cards finished))
           ∙ ap (λ o. unless_refused o σ (answered R t σ closing))
           (sym (enough n (sum t.assertions) (length rs) (Some NoRoom) (cond (ltb σ.counted t.cards) (Some CountUnfinished) None) total c.if-records-terms.false));
-      rest = c.contests-above.ensures.rest;
+      rest = c.contests_above.ensures.rest;
     }

@@ -24,7 +24,7 @@ returns-then-place-self g c =
     ap (λ b. cond b None (Some NotTheNextPlace)) (sym (ne_eqb c.args.place (σ.counted + 1) (λ e. omega arith)))
     ∙ shown_first c.args.self.now.terms.needed (length c.args.records.now) t
     (shown c.args.place c.args.found c.args.card.now) None (cond (eqb c.args.place (σ.counted + 1)) None (Some NotTheNextPlace)) total
-    c.if-records-terms.false c.in-default.ensures
+    c.if-records-terms.false c.in_default.ensures
 
 pub returns : goal.returns
 returns g c =
@@ -34,4 +34,4 @@ returns g c =
     ap (λ b. cond b None (Some NotTheNextPlace)) (sym (eq-eqb c.args.place (σ.counted + 1) (omega arith)))
     ∙ shown_first c.args.self.now.terms.needed (length c.args.records.now) t
     (shown c.args.place c.args.found c.args.card.now) None (cond (eqb c.args.place (σ.counted + 1)) None (Some NotTheNextPlace)) total
-    c.if-records-terms.false c.in-default.ensures
+    c.if-records-terms.false c.in_default.ensures

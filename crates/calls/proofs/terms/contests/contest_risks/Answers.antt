@@ -19,12 +19,12 @@ loop-i-preserved g c =
     let in-ns : i < length ns = simp length-take (omega arith) in
     let whole : start + c.min-count.result - start ≡ c.min-count.result = omega arith in (
       omega (arith, cut),
-      length-set c.loop-i.risks i c.worst-risk.result ∙ c.loop-i.invariant.1,
+      length-set c.loop-i.risks i c.worst_risk.result ∙ c.loop-i.invariant.1,
       filled_more (λ part. worst_risk (map m part)) ns rs i start c.min-count.result c.loop-i.risks
-          c.worst-risk.result in-ns (omega (arith, c.loop-i.invariant.1))
+          c.worst_risk.result in-ns (omega (arith, c.loop-i.invariant.1))
           (cut ∙ ap (λ n. min n (length rs - start)) (sym at)) c.loop-i.invariant.2
-          (c.worst-risk.ensures.is ∙ ap (λ n. worst_risk (map m (take n (drop start rs)))) whole),
-      first_more c.loop-i.i 0 c.worst-risk.result c.loop-i.risks c.loop-i.invariant.3,
+          (c.worst_risk.ensures.is ∙ ap (λ n. worst_risk (map m (take n (drop start rs)))) whole),
+      first_more c.loop-i.i 0 c.worst_risk.result c.loop-i.risks c.loop-i.invariant.3,
     )
 
 pub returns : goal.returns

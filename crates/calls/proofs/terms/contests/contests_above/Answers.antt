@@ -20,12 +20,12 @@ loop-i-preserved g c =
     let in-ns : i < length ns = simp length-take (omega arith) in
     let whole : start + c.min-count.result - start ≡ c.min-count.result = omega arith in (
       omega (arith, cut),
-      length-set c.loop-i.above i c.all-above.result ∙ c.loop-i.invariant.1,
+      length-set c.loop-i.above i c.all_above.result ∙ c.loop-i.invariant.1,
       filled_more (λ part. all_above R t.cards (map m part)) ns rs i start c.min-count.result c.loop-i.above
-          c.all-above.result in-ns (omega (arith, c.loop-i.invariant.1))
+          c.all_above.result in-ns (omega (arith, c.loop-i.invariant.1))
           (cut ∙ ap (λ n. min n (length rs - start)) (sym at)) c.loop-i.invariant.2
-          (c.all-above.ensures ∙ ap (λ n. all_above R t.cards (map m (take n (drop start rs)))) whole),
-      first_more c.loop-i.i false c.all-above.result c.loop-i.above c.loop-i.invariant.3,
+          (c.all_above.ensures ∙ ap (λ n. all_above R t.cards (map m (take n (drop start rs)))) whole),
+      first_more c.loop-i.i false c.all_above.result c.loop-i.above c.loop-i.invariant.3,
     )
 
 pub returns : goal.returns

@@ -8,7 +8,7 @@ pub loop-i-preserved : goal.loop-i-preserved
 loop-i-preserved c = (
   length-set c.loop-i.counts c.loop-i.i _ ∙ c.loop-i.invariant.0,
   counts_more assertion_count c.args.contests.now c.loop-i.i c.loop-i.counts c.loop-i.invariant.1 no_contest _ (omega arith)
-      (omega (arith, c.loop-i.invariant.0)) c.assertion-count.ensures,
+      (omega (arith, c.loop-i.invariant.0)) c.assertion_count.ensures,
 )
 
 pub returns : goal.returns
