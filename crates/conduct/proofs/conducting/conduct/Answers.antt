@@ -30,10 +30,10 @@ returns g c =
     let t = terms_of c.args.audit.terms in
     let σ = audit_state c.args.audit (map (account {A = g.row.A.Denot} g.P.Policy.state) c.args.records.now) in
     record {
-      refusal = c.in-default.ensures;
-      course = c.play-all.ensures.course;
-      stands = c.play-all.ensures.stands;
-      beyond = (c.play-all.ensures.beyond, c.play-all.ensures.places);
+      refusal = c.in_default.ensures;
+      course = c.play_all.ensures.course;
+      stands = c.play_all.ensures.stands;
+      beyond = (c.play_all.ensures.beyond, c.play_all.ensures.places);
       kept = (tt, tt);
       promise = promised (rules_of g.A.Assorter g.P.Policy) (lawful g) t σ;
     }

@@ -21,23 +21,23 @@ returns g c =
     let cs = map count_call c.args.calls.now in
     let n = length c.args.calls.now in
     let old = c.args.answers.now in
-    let ys = c.tally-all.new.answers in
+    let ys = c.tally_all.new.answers in
     let same = escalated a h xs c.escalate-hand.ensures.terms c.escalate-hand.ensures.drawn c.escalate-hand.ensures.counted in
     let terms = c.escalate-hand.ensures.terms in
     let put = rest_put old Taken ys (omega (arith, c.requires.places)) in
     record {
       answers =
           ap (λ zs. map answer_of (take (n + 1) zs)) put ∙ ap (map answer_of) (take_first n Taken ys)
-          ∙ ap (λ zs. taken ∷ zs) c.tally-all.ensures.answers
+          ∙ ap (λ zs. taken ∷ zs) c.tally_all.ensures.answers
           ∙ ap (λ t. taken ∷ answers_by R (terms_of t) (count_state h xs) cs) terms
           ∙ ap (λ σ. taken ∷ answers_by R (terms_of a.terms) σ cs) same;
       left =
-          c.tally-all.ensures.left ∙ ap (λ t. left_by R (terms_of t) (count_state h xs) cs) terms
+          c.tally_all.ensures.left ∙ ap (λ t. left_by R (terms_of t) (count_state h xs) cs) terms
           ∙ ap (λ σ. left_by R (terms_of a.terms) σ cs) same;
-      terms = c.tally-all.ensures.terms ∙ terms;
+      terms = c.tally_all.ensures.terms ∙ terms;
       beyond =
-          ap (λ t. drop t.needed c.tally-all.new.records) (sym terms) ∙ c.tally-all.ensures.beyond
+          ap (λ t. drop t.needed c.tally_all.new.records) (sym terms) ∙ c.tally_all.ensures.beyond
           ∙ ap (λ t. drop t.needed c.args.records.now) terms;
       places =
-          ap (drop (n + 1)) put ∙ drop_first n Taken ys ∙ c.tally-all.ensures.places ∙ beyond_first n old Taken;
+          ap (drop (n + 1)) put ∙ drop_first n Taken ys ∙ c.tally_all.ensures.places ∙ beyond_first n old Taken;
     }

@@ -14,32 +14,32 @@ use Rattle.conduct.proofs.Escalations.{answers_both, calls_length, later_length,
 use Rattle.conduct.proofs.Tails.{beyond_both, drop_tail, take_tail}
 use Rattle.conduct.proofs.conducting.play_all.Goals as goal
 
-pub draw-all-requires : goal.draw-all-requires
-draw-all-requires g c = record {
+pub draw_all-requires : goal.draw_all-requires
+draw_all-requires g c = record {
   records = c.requires.records;
   places = omega (arith, c.requires.places, calls_length c.args.before.now c.args.later);
 }
 
-pub slice-bounds-escalate-and-tally-count : goal.slice-bounds-escalate-and-tally-count
-slice-bounds-escalate-and-tally-count g c =
-    omega (arith, c.requires.places, calls_length c.args.before.now c.args.later, c.draw-all.auto.answers)
+pub slice_bounds-escalate_and_tally-count : goal.slice_bounds-escalate_and_tally-count
+slice_bounds-escalate_and_tally-count g c =
+    omega (arith, c.requires.places, calls_length c.args.before.now c.args.later, c.draw_all.auto.answers)
 
-pub slice-bounds-escalate-and-tally-start : goal.slice-bounds-escalate-and-tally-start
-slice-bounds-escalate-and-tally-start g c =
-    omega (arith, c.requires.places, calls_length c.args.before.now c.args.later, c.draw-all.auto.answers)
+pub slice_bounds-escalate_and_tally-start : goal.slice_bounds-escalate_and_tally-start
+slice_bounds-escalate_and_tally-start g c =
+    omega (arith, c.requires.places, calls_length c.args.before.now c.args.later, c.draw_all.auto.answers)
 
-pub escalate-and-tally-hand-requires : goal.escalate-and-tally-hand-requires
-escalate-and-tally-hand-requires g c =
+pub escalate_and_tally-hand-requires : goal.escalate_and_tally-hand-requires
+escalate_and_tally-hand-requires g c =
     let before = c.args.before.now in
-    let drawn = c.draw-all.new.answers in
-    let same : c.draw-all.new.audit.terms.needed ≡ c.args.audit.terms.needed = ap (λ t. t.needed) c.draw-all.ensures.terms in
+    let drawn = c.draw_all.new.answers in
+    let same : c.draw_all.new.audit.terms.needed ≡ c.args.audit.terms.needed = ap (λ t. t.needed) c.draw_all.ensures.terms in
     let all : length (all_calls before c.args.later) ≡ length before + (length c.in-Some.calls.now + 1) =
     calls_length before c.args.later ∙ ap (λ o. length before + length (later_calls o)) c.in-Some.is
     ∙ ap (λ k. length before + k) (later_length c.in-Some.calls) in
     let rest = length-take (length drawn - length before) (drop (length before) drawn) in
     record {
-      records = omega (arith, same, c.requires.records, c.draw-all.auto.records);
-      places = omega (arith, all, rest, length-drop (length before) drawn, c.requires.places, c.draw-all.auto.answers);
+      records = omega (arith, same, c.requires.records, c.draw_all.auto.records);
+      places = omega (arith, all, rest, length-drop (length before) drawn, c.requires.places, c.draw_all.auto.answers);
     }
 
 pub returns-in-None : goal.returns-in-None
@@ -53,17 +53,17 @@ returns-in-None g c =
     ap (all_calls before) c.in-None.is ∙ append-nil (map draw_call before) in
     let all : length (all_calls before later) ≡ length before = ap length calls ∙ length-map before draw_call in
     record {
-      stands = subst (λ o. StandsBy o (Drawing c.draw-all.new.audit)) (sym c.in-None.is) tt;
+      stands = subst (λ o. StandsBy o (Drawing c.draw_all.new.audit)) (sym c.in-None.is) tt;
       course = record {
         answered =
-            ap (λ n. map answer_of (take n c.draw-all.new.answers)) all ∙ c.draw-all.ensures.answers
+            ap (λ n. map answer_of (take n c.draw_all.new.answers)) all ∙ c.draw_all.ensures.answers
             ∙ ap (answers_by R t σ) (sym calls);
-        left = c.draw-all.ensures.left ∙ ap (left_by R t σ) (sym calls);
-        same_terms = c.draw-all.ensures.terms;
+        left = c.draw_all.ensures.left ∙ ap (left_by R t σ) (sym calls);
+        same_terms = c.draw_all.ensures.terms;
       };
-      beyond = c.draw-all.ensures.beyond;
+      beyond = c.draw_all.ensures.beyond;
       places =
-          ap (λ n. drop n c.draw-all.new.answers) all ∙ c.draw-all.ensures.places
+          ap (λ n. drop n c.draw_all.new.answers) all ∙ c.draw_all.ensures.places
           ∙ ap (λ n. drop n c.args.answers.now) (sym all);
     }
 
@@ -79,44 +79,44 @@ returns-in-Some g c =
     let n = length c.in-Some.calls.now in
     let cs = map draw_call before in
     let ds = later_calls (Some c.in-Some.calls) in
-    let audit = c.draw-all.new.audit in
-    let σ' = audit_state audit (map m c.draw-all.new.records) in
-    let drawn = c.draw-all.new.answers in
-    let ys = c.escalate-and-tally-hand.new.answers in
+    let audit = c.draw_all.new.audit in
+    let σ' = audit_state audit (map m c.draw_all.new.records) in
+    let drawn = c.draw_all.new.answers in
+    let ys = c.escalate_and_tally-hand.new.answers in
     let calls : all_calls before later ≡ cs ++ ds = ap (all_calls before) c.in-Some.is in
     let all : length (all_calls before later) ≡ k + (n + 1) =
     calls_length before later ∙ ap (λ o. k + length (later_calls o)) c.in-Some.is
     ∙ ap (λ j. k + j) (later_length c.in-Some.calls) in
-    let within : k ≤ length drawn = omega (arith, all, c.requires.places, c.draw-all.auto.answers) in
-    let terms = c.draw-all.ensures.terms in
+    let within : k ≤ length drawn = omega (arith, all, c.requires.places, c.draw_all.auto.answers) in
+    let terms = c.draw_all.ensures.terms in
     record {
-      stands = subst (λ o. StandsBy o (Counting c.escalate-and-tally-hand.result)) (sym c.in-Some.is) tt;
+      stands = subst (λ o. StandsBy o (Counting c.escalate_and_tally-hand.result)) (sym c.in-Some.is) tt;
       course = record {
         answered =
             ap (λ l. map answer_of (take l (put_mid k (length drawn - k) drawn ys))) all
             ∙ ap (map answer_of) (take_tail k drawn ys within (n + 1))
             ∙ map-append answer_of (take k drawn) (take (n + 1) ys)
-            ∙ ap (λ zs. zs ++ map answer_of (take (n + 1) ys)) c.draw-all.ensures.answers
-            ∙ ap (λ zs. answers_by R t σ cs ++ zs) c.escalate-and-tally-hand.ensures.answers
+            ∙ ap (λ zs. zs ++ map answer_of (take (n + 1) ys)) c.draw_all.ensures.answers
+            ∙ ap (λ zs. answers_by R t σ cs ++ zs) c.escalate_and_tally-hand.ensures.answers
             ∙ ap (λ u. answers_by R t σ cs ++ answers_by R (terms_of u) σ' ds) terms
-            ∙ ap (λ s. answers_by R t σ cs ++ answers_by R t s ds) c.draw-all.ensures.left
+            ∙ ap (λ s. answers_by R t σ cs ++ answers_by R t s ds) c.draw_all.ensures.left
             ∙ sym (answers_both R t σ cs ds)
             ∙ ap (answers_by R t σ) (sym calls);
         left =
-            c.escalate-and-tally-hand.ensures.left
+            c.escalate_and_tally-hand.ensures.left
             ∙ ap (λ u. left_by R (terms_of u) σ' ds) terms
-            ∙ ap (λ s. left_by R t s ds) c.draw-all.ensures.left
+            ∙ ap (λ s. left_by R t s ds) c.draw_all.ensures.left
             ∙ sym (left_both R t σ cs ds)
             ∙ ap (left_by R t σ) (sym calls);
-        same_terms = c.escalate-and-tally-hand.ensures.terms ∙ terms;
+        same_terms = c.escalate_and_tally-hand.ensures.terms ∙ terms;
       };
       beyond =
-          ap (λ u. drop u.needed c.escalate-and-tally-hand.new.records) (sym terms)
-          ∙ c.escalate-and-tally-hand.ensures.beyond
-          ∙ ap (λ u. drop u.needed c.draw-all.new.records) terms ∙ c.draw-all.ensures.beyond;
+          ap (λ u. drop u.needed c.escalate_and_tally-hand.new.records) (sym terms)
+          ∙ c.escalate_and_tally-hand.ensures.beyond
+          ∙ ap (λ u. drop u.needed c.draw_all.new.records) terms ∙ c.draw_all.ensures.beyond;
       places =
           ap (λ l. drop l (put_mid k (length drawn - k) drawn ys)) all ∙ drop_tail k drawn ys within (n + 1)
-          ∙ c.escalate-and-tally-hand.ensures.places
-          ∙ beyond_both k (n + 1) drawn c.args.answers.now c.draw-all.ensures.places
+          ∙ c.escalate_and_tally-hand.ensures.places
+          ∙ beyond_both k (n + 1) drawn c.args.answers.now c.draw_all.ensures.places
           ∙ ap (λ l. drop l c.args.answers.now) (sym all);
     }
