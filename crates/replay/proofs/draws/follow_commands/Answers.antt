@@ -57,16 +57,16 @@ commands-preserved g c =
     (subst (λ (x : Terms). Asked R (terms_of x) σ (call_of m) (τ, answer_or c.follow-stands.result.1)) i.2 c.follow-stands.ensures.course) in
     let place : k < length xs = omega (arith, i.6, i.7, c.requires.places) in
     let same_terms : standing_terms u ≡ t = c.follow-stands.ensures.terms ∙ i.2 in
-    let phase-same : phase_after (standing_phase s) m ≡ c.phase-after-next.result =
-    ap (λ (x : Phase). phase_after x m) (sym (taken_phase ph s m rest after i.1 reads)) ∙ sym c.phase-after-next.ensures in
+    let phase-same : phase_after (standing_phase s) m ≡ c.phase_after-next.result =
+    ap (λ (x : Phase). phase_after x m) (sym (taken_phase ph s m rest after i.1 reads)) ∙ sym c.phase_after-next.ensures in
     let more = followed_more R (terms_of t) (audit_state c.args.audit (map f c.args.records.now)) σ τ c.args.file.now rest after ph
     (map answer_of (take k xs)) m (answer_of a) i.0 reads (subst AcceptsOr c.in-Ok-answer.is c.follow-stands.ensures.accepts) asked in
     let answers-same : map answer_of (take k xs) ++ (answer_of a ∷ []) ≡ map answer_of (take (k + 1) (set xs k a)) =
     sym (ap (map answer_of) (take_more_set xs k a place) ∙ map_push answer_of (take k xs) a) in
     let start = audit_state c.args.audit (map f c.args.records.now) in (
-      subst (λ (ys : List course.Answer). Followed R (terms_of t) start c.args.file.now after c.phase-after-next.result ys τ) answers-same
+      subst (λ (ys : List course.Answer). Followed R (terms_of t) start c.args.file.now after c.phase_after-next.result ys τ) answers-same
           (subst (λ (x : Phase). Followed R (terms_of t) start c.args.file.now after x (map answer_of (take k xs) ++ (answer_of a ∷ [])) τ)
-          (sym c.phase-after-next.ensures) more),
+          (sym c.phase_after-next.ensures) more),
       subst (λ (x : Phase). StandsAt x u) phase-same
           (subst (λ (r : Result Answer Refusal). StandsAfter r (phase_after (standing_phase s) m) u) c.in-Ok-answer.is c.follow-stands.ensures.stands),
       same_terms,

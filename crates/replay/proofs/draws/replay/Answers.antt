@@ -11,15 +11,15 @@ use Rattle.calls.specs.Shapes.{terms_of}
 use Rattle.replay.specs.Replays.{HasRoom}
 use Rattle.replay.proofs.draws.replay.Goals as goal
 
-pub returns-then-records-records-needed : goal.returns-then-records-records-needed
-returns-then-records-records-needed g c =
+pub returns-then-records-records_needed : goal.returns-then-records-records_needed
+returns-then-records-records_needed g c =
     let a = g.met.A.Assorter in
     let t = terms_of c.args.audit.terms in
     let R = rules_of g.A.Assorter g.P.Policy in
     let file = c.args.file.now in
     let none : HasRoom t (length c.args.records.now) file (length c.args.answers.now) → ⊥ =
-    λ room. ⊎_elim (λ few. omega (arith, few, c.records-needed.ensures, room.for_records)) (λ few. omega (arith, few.1, room.for_answers))
-    c.then-records-records-needed.either in
+    λ room. ⊎_elim (λ few. omega (arith, few, c.records_needed.ensures, room.for_records)) (λ few. omega (arith, few.1, room.for_answers))
+    c.then-records-records_needed.either in
     rw c.stopped.ensures (record {
       replays = λ room. absurd (none room);
       unread = λ few. record {
@@ -43,9 +43,9 @@ returns g c =
     let t = terms_of c.args.audit.terms in
     let R = rules_of g.A.Assorter g.P.Policy in
     let file = c.args.file.now in
-    let r = c.follow-commands.ensures in
+    let r = c.follow_commands.ensures in
     let room : HasRoom t (length c.args.records.now) file (length c.args.answers.now) =
-    record { for_records = omega (arith, c.records-needed.ensures); for_answers = omega arith } in
+    record { for_records = omega (arith, c.records_needed.ensures); for_answers = omega arith } in
     record {
       replays = λ _. r.replays;
       unread = λ few. absurd (few room);

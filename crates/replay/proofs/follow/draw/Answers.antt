@@ -14,8 +14,8 @@ use Rattle.replay.specs.Replays.{call_of}
 use Rattle.replay.proofs.Room.{asked_by}
 use Rattle.replay.proofs.follow.draw.Goals as goal
 
-pub returns-in-err-enter : goal.returns-in-err-enter
-returns-in-err-enter g c =
+pub returns-in_err-enter-in-Entry : goal.returns-in_err-enter-in-Entry
+returns-in_err-enter-in-Entry g c =
     let t = terms_of c.args.audit.now.terms in
     let m = account {A = g.row.A.Denot} g.P.Policy.state in
     let rs = c.args.records.now in
@@ -23,23 +23,23 @@ returns-in-err-enter g c =
     let R = rules_of g.A.Assorter g.P.Policy in
     let shows : Card → Shown = shown c.in-Entry.place c.in-Entry.found in
     let total : n ≡ sum t.assertions = search rules in
-    let asks : call_of (meant c.args.command) ≡ Some (entry (shows c.card-from.result)) =
-    ap (λ x. call_of (meant x)) c.in-Entry.is ∙ ap (λ x. Some (entry (shows x))) (sym c.card-from.ensures) in
+    let asks : call_of (meant c.args.command) ≡ Some (entry (shows c.card_from.result)) =
+    ap (λ x. call_of (meant x)) c.in-Entry.is ∙ ap (λ x. Some (entry (shows x))) (sym c.card_from.ensures) in
     let after = audit_state c.enter.new.self (map m c.enter.new.records) in
-    let exit = err_from_is_err_and c.from-residual.result c.from-residual.ensures.1 in
-    let no : answer_or c.from-residual.result ≡ refused c.in-err-enter.field-0.0 = rw (exit.1, exit.2) refl in
+    let exit = err_from_is_err_and c.from_residual.result c.from_residual.ensures.1 in
+    let no : answer_or c.from_residual.result ≡ refused c.in_err-enter-in-Entry.field-0.0 = rw (exit.1, exit.2) refl in
     record {
       course =
           asked_by R t n (length rs) (audit_state c.args.audit.now (map m rs)) (call_of (meant c.args.command))
-          (entry (shows c.card-from.result)) _ total c.requires.room asks (ap (λ a. (after, a)) no ∙ c.in-err-enter.ensures.course);
+          (entry (shows c.card_from.result)) _ total c.requires.room asks (ap (λ a. (after, a)) no ∙ c.in_err-enter-in-Entry.ensures.course);
       accepts = search rules;
       terms = search rules;
       beyond = search rules;
       kept = search rules;
     }
 
-pub returns-in-ok-enter : goal.returns-in-ok-enter
-returns-in-ok-enter g c =
+pub returns-in_ok-enter-in-Entry : goal.returns-in_ok-enter-in-Entry
+returns-in_ok-enter-in-Entry g c =
     let t = terms_of c.args.audit.now.terms in
     let m = account {A = g.row.A.Denot} g.P.Policy.state in
     let rs = c.args.records.now in
@@ -47,12 +47,12 @@ returns-in-ok-enter g c =
     let R = rules_of g.A.Assorter g.P.Policy in
     let shows : Card → Shown = shown c.in-Entry.place c.in-Entry.found in
     let total : n ≡ sum t.assertions = search rules in
-    let asks : call_of (meant c.args.command) ≡ Some (entry (shows c.card-from.result)) =
-    ap (λ x. call_of (meant x)) c.in-Entry.is ∙ ap (λ x. Some (entry (shows x))) (sym c.card-from.ensures) in
+    let asks : call_of (meant c.args.command) ≡ Some (entry (shows c.card_from.result)) =
+    ap (λ x. call_of (meant x)) c.in-Entry.is ∙ ap (λ x. Some (entry (shows x))) (sym c.card_from.ensures) in
     record {
       course =
           asked_by R t n (length rs) (audit_state c.args.audit.now (map m rs)) (call_of (meant c.args.command))
-          (entry (shows c.card-from.result)) _ total c.requires.room asks c.in-ok-enter.ensures.course;
+          (entry (shows c.card_from.result)) _ total c.requires.room asks c.in_ok-enter-in-Entry.ensures.course;
       accepts = search rules;
       terms = search rules;
       beyond = search rules;

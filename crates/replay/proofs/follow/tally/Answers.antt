@@ -14,8 +14,8 @@ use Rattle.replay.specs.Replays.{call_of}
 use Rattle.replay.proofs.Room.{asked_by}
 use Rattle.replay.proofs.follow.tally.Goals as goal
 
-pub returns-in-err-count : goal.returns-in-err-count
-returns-in-err-count g c =
+pub returns-in_err-count-in-Count : goal.returns-in_err-count-in-Count
+returns-in_err-count-in-Count g c =
     let t = terms_of c.args.hand.now.terms in
     let m = account {A = g.row.A.Denot} g.P.Policy.state in
     let rs = c.args.records.now in
@@ -23,23 +23,23 @@ returns-in-err-count g c =
     let R = rules_of g.A.Assorter g.P.Policy in
     let shows : Card → Shown = shown c.in-Count.place c.in-Count.found in
     let total : n ≡ sum t.assertions = search rules in
-    let asks : call_of (meant c.args.command) ≡ Some (hand_count (shows c.card-from.result)) =
-    ap (λ x. call_of (meant x)) c.in-Count.is ∙ ap (λ x. Some (hand_count (shows x))) (sym c.card-from.ensures) in
+    let asks : call_of (meant c.args.command) ≡ Some (hand_count (shows c.card_from.result)) =
+    ap (λ x. call_of (meant x)) c.in-Count.is ∙ ap (λ x. Some (hand_count (shows x))) (sym c.card_from.ensures) in
     let after = count_state c.count.new.self (map m c.count.new.records) in
-    let exit = err_from_is_err_and c.from-residual.result c.from-residual.ensures.1 in
-    let no : answer_or c.from-residual.result ≡ refused c.in-err-count.field-0.0 = rw (exit.1, exit.2) refl in
+    let exit = err_from_is_err_and c.from_residual.result c.from_residual.ensures.1 in
+    let no : answer_or c.from_residual.result ≡ refused c.in_err-count-in-Count.field-0.0 = rw (exit.1, exit.2) refl in
     record {
       course =
           asked_by R t n (length rs) (count_state c.args.hand.now (map m rs)) (call_of (meant c.args.command))
-          (hand_count (shows c.card-from.result)) _ total c.requires.room asks (ap (λ a. (after, a)) no ∙ c.in-err-count.ensures.course);
+          (hand_count (shows c.card_from.result)) _ total c.requires.room asks (ap (λ a. (after, a)) no ∙ c.in_err-count-in-Count.ensures.course);
       accepts = search rules;
       terms = search rules;
       beyond = search rules;
       kept = search rules;
     }
 
-pub returns-in-ok-count : goal.returns-in-ok-count
-returns-in-ok-count g c =
+pub returns-in_ok-count-in-Count : goal.returns-in_ok-count-in-Count
+returns-in_ok-count-in-Count g c =
     let t = terms_of c.args.hand.now.terms in
     let m = account {A = g.row.A.Denot} g.P.Policy.state in
     let rs = c.args.records.now in
@@ -47,12 +47,12 @@ returns-in-ok-count g c =
     let R = rules_of g.A.Assorter g.P.Policy in
     let shows : Card → Shown = shown c.in-Count.place c.in-Count.found in
     let total : n ≡ sum t.assertions = search rules in
-    let asks : call_of (meant c.args.command) ≡ Some (hand_count (shows c.card-from.result)) =
-    ap (λ x. call_of (meant x)) c.in-Count.is ∙ ap (λ x. Some (hand_count (shows x))) (sym c.card-from.ensures) in
+    let asks : call_of (meant c.args.command) ≡ Some (hand_count (shows c.card_from.result)) =
+    ap (λ x. call_of (meant x)) c.in-Count.is ∙ ap (λ x. Some (hand_count (shows x))) (sym c.card_from.ensures) in
     record {
       course =
           asked_by R t n (length rs) (count_state c.args.hand.now (map m rs)) (call_of (meant c.args.command))
-          (hand_count (shows c.card-from.result)) _ total c.requires.room asks c.in-ok-count.ensures.course;
+          (hand_count (shows c.card_from.result)) _ total c.requires.room asks c.in_ok-count-in-Count.ensures.course;
       accepts = search rules;
       terms = search rules;
       beyond = search rules;
