@@ -1,4 +1,6 @@
 //! Whether what a caller holds is a setup that would have been accepted.
+#![tactic(auto)]
+
 mod limits;
 
 ghost use Rattle.std.specs.Prelude.{Decides};

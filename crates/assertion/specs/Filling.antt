@@ -1,5 +1,5 @@
 -- How a list grows while it is filled.
-use Rattle.std.specs.Prelude.{◌≡◌, ℕ, ◌+◌, ◌≤◌, List, ◌++◌, map, length, drop}
+use Rattle.std.specs.Prelude.{◌≡◌, ◌+◌, ◌≤◌, List, ◌++◌, map, length, drop}
 use Rattle.bounded.specs.Lists.{Held}
 use Rattle.assertion.specs.declared.assertions.Planned.{Planned}
 use Rattle.assertion.specs.Assertions.{Plan, meant}

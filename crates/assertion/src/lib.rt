@@ -1,4 +1,6 @@
 //! The assertions of an audit: which there are, and with which bet the test of each begins.
+#![tactic(auto)]
+
 mod assertions;
 mod bets;
 mod filling;

@@ -1,4 +1,6 @@
 //! What one card is worth to each assertion, and what the values of all cards tell of the outcome.
+#![tactic(auto)]
+
 mod assorters;
 mod marks;
 mod outcomes;

@@ -1,4 +1,6 @@
 //! The program audit, run in the gate on an audit that is escalated and closed by a full hand count.
+#![tactic(auto)]
+
 use protocol::print_audit_here;
 use std::io;
 

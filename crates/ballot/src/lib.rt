@@ -1,5 +1,7 @@
 //! What a ballot is about: batches of cards, contests, candidates with their reported votes, and the
 //! marks on a card.
+#![tactic(auto)]
+
 mod operands;
 mod winners;
 

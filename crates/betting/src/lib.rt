@@ -1,4 +1,6 @@
 //! The money game of one assertion: what a policy bets, and what its bets bring.
+#![tactic(auto)]
+
 mod chosen;
 mod examples;
 mod fixed;

@@ -1,7 +1,7 @@
 -- Items appended one after the other fill the memory from its front.
-use Rattle.std.proofs.Common.{◌≡◌, ℕ, zero, suc, ◌+◌, ◌<◌, ◌≤◌, true, false, cond, ltb, List, [], ◌∷◌, ◌++◌, length, drop, set, sym, refl, ap, ◌∙◌, arith, length-append, length-drop, ltb-true, lt-ltb}
+use Rattle.std.proofs.Common.{◌≡◌, suc, ◌<◌, ◌≤◌, true, ltb, List, [], ◌∷◌, ◌++◌, length, drop, set, refl, ap, ◌∙◌, arith, length-append, length-drop, lt-ltb}
 use Rattle.std.proofs.lemmas.List.{append_assoc, length_push}
-use Rattle.bounded.specs.Lists.{Held, appended, filled, has_room}
+use Rattle.bounded.specs.Lists.{appended, filled, has_room}
 
 module _ {T : Type 0} where
   pub length_filled : (xs memory : List T) → length xs ≤ length memory → length (filled xs memory).memory ≡ length memory

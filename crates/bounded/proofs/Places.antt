@@ -1,7 +1,6 @@
 -- The items of a list are the first places of its memory.
-use Rattle.std.proofs.Common.{◌≡◌, ℕ, zero, suc, ◌<◌, ◌≤◌, true, false, ltb, List, [], ◌∷◌, length, get_or, take, Ok, Err, Result, refl, arith, le-ltb, lt-ltb}
-use Rattle.std.proofs.lemmas.List.{take_all, length-take-le, length-take, get_or-take}
-use Rattle.refusal.specs.declared.Refusal.{Refusal}
+use Rattle.std.proofs.Common.{◌≡◌, ℕ, zero, suc, ◌<◌, ◌≤◌, true, false, ltb, List, [], ◌∷◌, length, get_or, take, Ok, Err, refl, arith, le-ltb, lt-ltb}
+use Rattle.std.proofs.lemmas.List.{length-take}
 use Rattle.refusal.specs.declared.Refusal.TheVariants.{PastTheEnd}
 use Rattle.bounded.specs.Lists.{item}
 

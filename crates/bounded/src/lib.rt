@@ -1,4 +1,6 @@
 //! A list of at most as many items as the slice that its owner lends has places.
+#![tactic(auto)]
+
 ghost use Rattle.std.specs.Prelude.{◌≡◌, [], ◌∷◌, length};
 ghost use Rattle.bounded.specs.Lists.{append_answer, appended, emptied, get_answer, held, replace_answer, replaced};
 

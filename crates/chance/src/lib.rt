@@ -1,4 +1,6 @@
 //! How many of all draw sequences a fair game grows on. The functions only state what is proved.
+#![tactic(auto)]
+
 ghost use Rattle.chance.specs.Sequences.{AllSequences, Counted, Names, sequences};
 ghost use Rattle.chance.specs.Ville.{Ville};
 

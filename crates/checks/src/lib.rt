@@ -1,4 +1,5 @@
 //! Whole audits as tests, each on an example that can be worked out by hand.
+#![tactic(auto)]
 
 #[cfg(test)]
 mod tests {

@@ -1,4 +1,6 @@
 //! Whole lists of calls on an audit, with every answer.
+#![tactic(auto)]
+
 mod conducting;
 mod outcome;
 

@@ -11,7 +11,6 @@ use Rattle.verdict.specs.declared.Finding.TheVariants.{Confirm, Continue, FullHa
 use Rattle.course.specs.Terms.{Terms}
 use Rattle.course.specs.Course.{Rules, State, Call, after_count, after_entry, all_settled, found_by, parts, risks, shown_value, step, worst_risk}
 use Rattle.course.specs.Course.Call.{entry, verdict, escalation, hand_count, closing}
-use Rattle.course.specs.Course.Answer.{taken}
 use Rattle.course.specs.Laws.{ConfirmsByRisk, CountsDraws, SettledStays, SameGame, left_by, taken_entries, taken_entry}
 use Rattle.course.proofs.Steps.{by_step}
 use Rattle.course.proofs.Parts.{get_d_map}

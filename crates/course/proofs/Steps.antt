@@ -8,7 +8,7 @@ use Rattle.refusal.specs.declared.Refusal.TheVariants.{BadPlace, BadFound, BadMa
 use Rattle.course.specs.Terms.{Terms, Shown, bad_place, bad_marks, blank, blank_card, marks_fit, shown_refusal}
 use Rattle.course.specs.Course.{Rules, State, Call, Answer, answered, first_of, no_draws_left, refusal_of, step, unless_refused}
 use Rattle.course.specs.Course.Call.{entry, hand_count, closing}
-use Rattle.course.specs.Course.Answer.{refused, taken}
+use Rattle.course.specs.Course.Answer.{refused}
 use Rattle.course.specs.Scripts.{Ballot, show_card, show_drawn, show_missing}
 use Rattle.course.specs.Bounds.{Fits}
 

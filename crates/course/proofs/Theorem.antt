@@ -20,7 +20,7 @@ use Rattle.verdict.specs.declared.Finding.TheVariants.{Confirm, Continue, FullHa
 use Rattle.course.specs.Terms.{Terms, Shown, blank_card}
 use Rattle.course.specs.Course.{Rules, Lawful, State, Call, Answer, after_count, after_entry, all_above, all_settled, answered, course, first_of, no_draws_left, parts, refusal_of, risks, shown_value, step, worst_risk}
 use Rattle.course.specs.Course.Call.{entry, verdict, escalation, hand_count, closing}
-use Rattle.course.specs.Course.Answer.{refused, taken}
+use Rattle.course.specs.Course.Answer.{taken}
 use Rattle.course.specs.Scripts.{Ballot, Move, Hand, calls, draws_in, hand_call, hand_calls, show_card, show_drawn, show_missing}
 use Rattle.course.specs.Bounds.{Any, accounts_of, Confirms, Contradicted, Fits, LimitsRisk, LowRisk, MeasuresRisk, Opened, WrongAnswer}
 use Rattle.course.specs.Laws.{NeverUpholdsWrongly, UpholdsTruly}

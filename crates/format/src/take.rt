@@ -264,7 +264,7 @@ mod tests {
         };
         assert_eq!(rt; name, b"BOX-0001");
         assert_eq!(rt; cards, 100);
-        assert_eq!(rt; rest, &[0x02]);
+        assert_eq!(rt; rest, [0x02].as_slice());
         Ok(())
     }
 

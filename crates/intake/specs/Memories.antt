@@ -1,5 +1,5 @@
 -- Memory that holds nothing yet: 200 batches, 8 contests, 256 candidates and 256 assertions.
-use Rattle.std.specs.Prelude.{◌≡◌, ℕ, map, replicate}
+use Rattle.std.specs.Prelude.{◌≡◌, map, replicate}
 use Rattle.assertion.specs.Assertions.{meant, share}
 use Rattle.ballot.specs.declared.Kind.TheVariants.{Plurality}
 use Rattle.intake.specs.declared.memory.Memory.{Memory}

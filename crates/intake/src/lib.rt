@@ -1,4 +1,6 @@
 //! What the programs share: a file within its limit, and memory for what it describes.
+#![tactic(auto)]
+
 ghost use Rattle.std.specs.Prelude.{◌≤◌, IfSome, IfOk, vec_len};
 
 pub mod memory;

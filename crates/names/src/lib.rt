@@ -1,4 +1,6 @@
 //! Names and kinds as members read them.
+#![tactic(auto)]
+
 use ballot::Kind;
 use std::fmt;
 

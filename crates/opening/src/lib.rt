@@ -1,4 +1,6 @@
 //! The records with which an audit is opened.
+#![tactic(auto)]
+
 mod policies;
 mod starts;
 

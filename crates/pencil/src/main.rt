@@ -2,6 +2,8 @@
 //!
 //! It reads the setup file in the folder that it is run in, and from its input one line: the number
 //! of an assertion, from 1, and then an outcome for each card, `win`, `loss`, `blank` or `missing`.
+#![tactic(auto)]
+
 mod outcome;
 mod steps;
 

@@ -1,4 +1,6 @@
 //! Prints what will be audited, from the setup file in the folder that it is run in.
+#![tactic(auto)]
+
 mod outline;
 
 use bounded::List;

@@ -1,4 +1,6 @@
 //! The audit of two files, as the programs print it.
+#![tactic(auto)]
+
 mod answers;
 mod records;
 

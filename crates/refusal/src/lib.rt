@@ -1,4 +1,6 @@
 //! Why a call or a file is refused, and where in a file.
+#![tactic(auto)]
+
 ghost use Rattle.std.specs.Prelude.{◌≡◌, Some};
 ghost use Rattle.refusal.specs.Numbers.{fault_line, file_number, number};
 

@@ -1,5 +1,5 @@
 -- The printed lines of a verdict tell its risks, draws and finding.
-use Rattle.std.proofs.Common.{◌≡◌, ℕ, zero, suc, ◌+◌, ◌^◌, ◌<◌, ◌≤◌, true, false, cond, eqb, List, [], ◌∷◌, ◌++◌, length, take, codes, decimal, sym, refl, ap, ◌∙◌, arith, eq-eqb}
+use Rattle.std.proofs.Common.{◌≡◌, ℕ, ◌+◌, ◌^◌, ◌<◌, cond, eqb, List, [], ◌∷◌, ◌++◌, length, codes, decimal, sym, refl, ap, ◌∙◌, arith}
 use Rattle.std.proofs.lemmas.Fmt.{decimal_injective}
 use Rattle.std.proofs.lemmas.List.{append_assoc, append_cancel_left, length-take}
 use Rattle.std.proofs.lemmas.List.Sums.{sum_by-cons}
@@ -9,7 +9,7 @@ use Rattle.verdict.specs.declared.Verdict.{Verdict}
 use Rattle.verdict.specs.declared.Finding.{Finding}
 use Rattle.verdict.specs.declared.Finding.TheVariants.{Confirm, Continue, FullHandCount}
 use Rattle.report.specs.Lines.{line, line_count, numbered, risk_line, draws_line, finding_line}
-use Rattle.report.specs.Told.{InRange, LinesTell}
+use Rattle.report.specs.Told.{LinesTell}
 use Rattle.report.proofs.Counts.{draws_quiet, risk_front, risk_quiet}
 
 rest_quiet : (x : ℕ) (xs : List ℕ) → line_count (x ∷ xs) ≡ 0 → line_count xs ≡ 0

@@ -1,5 +1,5 @@
 -- The whole text of a report.
-use Rattle.std.proofs.Common.{◌≡◌, ℕ, ◌+◌, min, List, ◌++◌, length, take, ap, ◌∙◌}
+use Rattle.std.proofs.Common.{◌≡◌, ℕ, min, List, ◌++◌, length, take, ap, ◌∙◌}
 use Rattle.verdict.specs.declared.Verdict.{Verdict}
 use Rattle.verdict.specs.declared.Closing.{Closing}
 use Rattle.report.specs.Lines.{numbered, risk_line, outcome_line, draws_line, finding_line, verdict_lines, closing_lines}

@@ -1,5 +1,5 @@
 -- What the printed lines of a verdict tell.
-use Rattle.std.specs.Prelude.{◌≡◌, ℕ, ◌^◌, ◌<◌, ◌≤◌, length}
+use Rattle.std.specs.Prelude.{◌≡◌, ◌^◌, ◌<◌, ◌≤◌, length}
 use Rattle.std.specs.List.{AllByRecursion as All}
 use Rattle.verdict.specs.Contests.{contest_risks}
 use Rattle.verdict.specs.declared.Verdict.{Verdict}

@@ -1,4 +1,6 @@
 //! The printed lines of a verdict and of a closed hand count.
+#![tactic(auto)]
+
 ghost use Rattle.std.specs.Prelude.{◌≡◌, ◌+◌, ◌≤◌, min};
 ghost use Rattle.report.specs.Lines.{closing_lines, line_count, report_answer, reported, verdict_lines};
 ghost use Rattle.report.specs.Texts.{written};
@@ -74,7 +76,10 @@ mod tests {
         };
         let mut out = [b'.'; 37];
         assert_eq!(rt; report_verdict(&verdict, &mut out), Ok(35));
-        assert_eq!(rt; &out[..], b"contest 1 risk 46\ndraws 17\nconfirm\n..");
+        assert_eq!(rt;
+            &out[..],
+            b"contest 1 risk 46\ndraws 17\nconfirm\n..".as_slice()
+        );
         let mut short = [b'.'; 34];
         assert_eq!(rt;
             report_verdict(&verdict, &mut short),
@@ -91,6 +96,9 @@ mod tests {
         };
         let mut out = [b'.'; 38];
         assert_eq!(rt; report_closing(&closing, &mut out), Ok(38));
-        assert_eq!(rt; &out[..], b"contest 1 upheld\ncontest 2 not upheld\n");
+        assert_eq!(rt;
+            &out[..],
+            b"contest 1 upheld\ncontest 2 not upheld\n".as_slice()
+        );
     }
 }

@@ -1,17 +1,16 @@
 -- A file is accepted exactly when it is the written form of a setup within the limits; a refusal stands after whole commands.
-use Rattle.std.proofs.Common.{◌≡◌, ℕ, suc, ◌+◌, ◌-◌, ◌<◌, ◌≤◌, true, ◌⊎◌, List, [], ◌∷◌, ◌++◌, length, Ok, Err, Result, sym, refl, ap, ◌∙◌, subst, inl, inr, arith, length-drop}
+use Rattle.std.proofs.Common.{◌≡◌, ℕ, suc, ◌-◌, ◌≤◌, true, ◌⊎◌, List, [], ◌∷◌, length, Ok, Err, Result, sym, refl, ap, ◌∙◌, subst, inl, inr, arith, length-drop}
 use Rattle.refusal.specs.declared.Fault.{Fault}
 use Rattle.refusal.specs.declared.Refusal.{Refusal}
 use Rattle.format.specs.Format.{Cmd, width}
 use Rattle.format.proofs.Writing.{written_width}
-use Rattle.setup.specs.declared.progress.Progress.{Progress}
 use Rattle.setup.specs.declared.setup.Setup.{Setup}
-use Rattle.setup.specs.Described.{Described, WithinLimits, WrittenBefore, WrittenForm, commands, numbers}
-use Rattle.setup.specs.Reading.{Lists, Outcome, emptied_where_refused, following, nothing_read, opened, reading, refused, refused_fault, run, setup_of, without_items}
-use Rattle.setup.specs.Accepted.{HasPlaces, ReadsSetups, RefusedAfter, accepted, lists_after, lists_with}
+use Rattle.setup.specs.Described.{Described, WithinLimits, WrittenBefore, WrittenForm}
+use Rattle.setup.specs.Reading.{Lists, Outcome, emptied_where_refused, following, nothing_read, opened, reading, refused, refused_fault, setup_of, without_items}
+use Rattle.setup.specs.Accepted.{HasPlaces, ReadsSetups, RefusedAfter, accepted}
 use Rattle.setup.proofs.Added.{lists_along}
 use Rattle.setup.proofs.Forward.{written_is_read}
-use Rattle.setup.proofs.Known.{Known, at_start, known_along, known_opened, Opened}
+use Rattle.setup.proofs.Known.{at_start, known_along, known_opened}
 use Rattle.setup.proofs.Trace.{Traced, trace}
 
 -- What follows commands is no longer than the bytes that they begin.

@@ -1,26 +1,25 @@
 -- The written form of a setup within the limits is read as that setup.
-use Rattle.std.proofs.Common.{◌≡◌, ℕ, zero, suc, ◌+◌, ◌-◌, ◌*◌, ◌<◌, ◌≤◌, Bool, true, false, cond, List, [], ◌∷◌, ◌++◌, map, length, take, drop, Ok, sum_by, sym, refl, ap, ◌∙◌, subst, arith, length-append, length-drop, le-leb}
+use Rattle.std.proofs.Common.{◌≡◌, ℕ, suc, ◌+◌, ◌-◌, ◌*◌, ◌≤◌, true, false, List, [], ◌∷◌, ◌++◌, map, length, take, drop, sym, refl, ap, ◌∙◌, subst, arith, length-append, le-leb}
 use Rattle.std.proofs.lemmas.List.{append_assoc, append-nil, length_push, drop_at, take-append-drop}
-use Rattle.std.proofs.lemmas.List.Sums.{sum_by_push, sum_by-cons, sum_by-append}
+use Rattle.std.proofs.lemmas.List.Sums.{sum_by-cons}
 use Rattle.std.specs.List.{AllByRecursion as All}
 use Rattle.ballot.specs.declared.Batch.{Batch}
 use Rattle.ballot.specs.declared.Candidate.{Candidate}
 use Rattle.ballot.specs.declared.Contest.{Contest}
 use Rattle.ballot.specs.declared.Kind.{Kind}
 use Rattle.ballot.specs.declared.Kind.TheVariants.{Plurality, Approval, Supermajority}
-use Rattle.ballot.specs.Contests.{ContestFits, assertion_count}
+use Rattle.ballot.specs.Contests.{assertion_count}
 use Rattle.ballot.specs.Winners.{VotesFit, all_votes, has_winners, votes_fit, votes_within}
 use Rattle.format.specs.declared.command.Phase.{Phase}
 use Rattle.format.specs.declared.command.Phase.TheVariants as at
-use Rattle.format.specs.Format.{Cmd, opens, allowed}
-use Rattle.setup.specs.declared.progress.Progress.{Progress}
+use Rattle.format.specs.Format.{opens, allowed}
 use Rattle.setup.specs.declared.setup.Terms.{Terms}
-use Rattle.setup.specs.Described.{Described, BatchesFit, TermsFit, ContestStands, ContestsStand, WithinLimits, WrittenForm, cards_in, assertions_in, batch_command, terms_command, contest_command, candidate_command, contest_commands, commands}
+use Rattle.setup.specs.Described.{Described, TermsFit, ContestStands, ContestsStand, WithinLimits, WrittenForm, cards_in, assertions_in, batch_command, terms_command, candidate_command, contest_commands, commands}
 use Rattle.setup.specs.Reading.{Lists, Outcome, emptied_where_refused, following, nothing_read, opened, reading, slate, without_items}
 use Rattle.setup.specs.Accepted.{HasPlaces, accepted, lists_with}
 use Rattle.setup.proofs.Leads.{Leads, here, then, leads_on, leads_to, reads_along}
-use Rattle.setup.proofs.Steps.{made, step_on_batch, step_on_terms, step_on_contest, step_on_candidate, step_on_last, step_on_opening}
-use Rattle.setup.proofs.Turns.{Reached, reached_start, reached_end}
+use Rattle.setup.proofs.Steps.{made, step_on_batch, step_on_terms, step_on_contest, step_on_candidate, step_on_last}
+use Rattle.setup.proofs.Turns.{reached_start, reached_end}
 
 pub votes_are_within : (k : Kind) (seats n votes : ℕ) → VotesFit k seats n votes → votes_within k seats n votes ≡ true
 votes_are_within Plurality seats n votes h = le-leb votes (seats * n) h

@@ -1,5 +1,5 @@
 -- What is known of the commands that were followed: they are the commands of a setup, as far as it was read.
-use Rattle.std.proofs.Common.{◌≡◌, ℕ, suc, ◌+◌, ◌-◌, ◌*◌, ◌<◌, ◌≤◌, Bool, true, false, cond, ◌&&◌, ◌||◌, eqb, ltb, leb, List, [], ◌∷◌, ◌++◌, map, length, take, drop, Some, None, Ok, Err, sum_by, Option, Result, sym, refl, ap, ◌∙◌, subst, arith, length-append, ltb-false, leb-false, leb-true}
+use Rattle.std.proofs.Common.{◌≡◌, ℕ, ◌+◌, ◌-◌, ◌*◌, ◌<◌, ◌≤◌, Bool, true, false, cond, ◌&&◌, ◌||◌, eqb, ltb, leb, List, [], ◌∷◌, ◌++◌, map, length, take, drop, Some, None, Ok, Err, Option, Result, sym, refl, ap, ◌∙◌, subst, arith, length-append, ltb-false, leb-false, leb-true}
 use Rattle.std.proofs.lemmas.List.{append_assoc, append-nil, length_push, map_push, take_all, drop_all, take-append-le, drop-append-le, length-take, drop_at}
 use Rattle.std.proofs.ByRecursion.{All-push}
 use Rattle.std.proofs.lemmas.List.Sums.{sum_by_push}
@@ -13,7 +13,7 @@ use Rattle.ballot.specs.declared.Candidate.{Candidate}
 use Rattle.ballot.specs.declared.Contest.{Contest}
 use Rattle.ballot.specs.declared.Kind.{Kind}
 use Rattle.ballot.specs.declared.Kind.TheVariants.{Plurality, Approval, Supermajority}
-use Rattle.ballot.specs.Contests.{ContestFits, DescribedBy, assertion_count, contest_from, kind_number, share_p, share_q}
+use Rattle.ballot.specs.Contests.{ContestFits, assertion_count, contest_from}
 use Rattle.ballot.specs.Winners.{VotesFit, all_votes, has_winners, votes_fit, votes_within}
 use Rattle.ballot.proofs.Described.{described_from}
 use Rattle.format.specs.declared.command.Phase.{Phase}
@@ -24,9 +24,9 @@ use Rattle.setup.specs.declared.setup.PolicyChoice.{PolicyChoice}
 use Rattle.setup.specs.declared.setup.PolicyChoice.TheVariants.{Fixed, Shrinking}
 use Rattle.setup.specs.declared.setup.Terms.{Terms}
 use Rattle.setup.specs.Described.{Described, BatchesFit, PolicyFits, TermsFit, ContestStands, ContestsStand, WithinLimits, cards_in, assertions_in, policy_number, weight_of, batch_command, terms_command, contest_command, candidate_command, contest_commands, commands, numbers}
-use Rattle.setup.specs.Reading.{Lists, Stepped, setup_of, admits, batch_objection, candidate_objection, contest_objection, slate_objection, slate, is_last, after_batch, after_terms, after_contest, after_candidate, policy_from, terms_from, terms_with, opened, nothing_read, step, step_contest, within}
+use Rattle.setup.specs.Reading.{Lists, Stepped, setup_of, batch_objection, candidate_objection, contest_objection, slate_objection, slate, after_batch, after_terms, after_contest, after_candidate, policy_from, terms_from, terms_with, opened, nothing_read, step, step_contest, within}
 use Rattle.setup.specs.Accepted.{HasPlaces, lists_with}
-use Rattle.setup.proofs.Added.{Admitted, admitted}
+use Rattle.setup.proofs.Added.{admitted}
 use Rattle.setup.proofs.Forward.{votes_are_within}
 use Rattle.setup.proofs.Leads.{Leads, here, then}
 use Rattle.setup.proofs.Steps.{made, step_on_batch, step_on_terms, step_on_contest, step_on_candidate, step_on_last, step_on_opening}

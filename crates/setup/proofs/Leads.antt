@@ -1,7 +1,6 @@
 -- Commands that are followed one after the other, none of them refused, and how the reading of a file goes along them.
-use Rattle.std.proofs.Common.{◌≡◌, ℕ, ◌<◌, true, false, List, [], ◌∷◌, ◌++◌, length, Ok, Err, Result, refl, ap, subst}
-use Rattle.format.specs.Format.{Cmd, Taken, allowed, code, next}
-use Rattle.format.specs.Written.{Writes}
+use Rattle.std.proofs.Common.{◌≡◌, ℕ, true, false, List, [], ◌∷◌, ◌++◌, Ok, ap, subst}
+use Rattle.format.specs.Format.{Cmd, allowed, code, next}
 use Rattle.format.proofs.Writing.{written_is_taken, shorter}
 use Rattle.setup.specs.declared.progress.Progress.{Progress}
 use Rattle.setup.specs.Described.{WrittenBefore}

@@ -1,33 +1,26 @@
 -- What each command does to lists whose memory its items fill, where no rule objects.
-use Rattle.std.proofs.Common.{◌≡◌, ℕ, zero, suc, ◌+◌, ◌-◌, ◌*◌, ◌<◌, ◌≤◌, Bool, true, false, cond, not, ◌&&◌, ◌||◌, eqb, ltb, leb, List, [], ◌∷◌, ◌++◌, map, length, take, drop, Some, None, Ok, Err, sum_by, Option, Result, sym, refl, ap, ◌∙◌, subst, arith, length-append, length-drop, le-ltb, lt-ltb, le-leb}
+use Rattle.std.proofs.Common.{◌≡◌, ℕ, ◌+◌, ◌<◌, ◌≤◌, true, false, ◌&&◌, ◌||◌, eqb, ltb, leb, List, [], ◌∷◌, ◌++◌, length, Some, None, Ok, Option, Result, refl, ap, ◌∙◌, arith, le-ltb, lt-ltb, le-leb}
 use borrow.Author.Tests.{lt-leb}
-use Rattle.std.proofs.lemmas.List.{append_assoc, append-nil, length_push, drop_at, take-append-drop, length-take-le}
-use Rattle.std.proofs.ByRecursion.{All-append}
-use Rattle.std.proofs.lemmas.List.Sums.{sum_by_push, sum_by-cons, sum_by-append}
 use Rattle.std.proofs.lemmas.Bool.Decides.{nat_tests}
-use Rattle.std.specs.List.{AllByRecursion as All}
 use Rattle.refusal.specs.declared.Refusal.{Refusal}
 use Rattle.bounded.specs.Lists.{Held, appended, filled, has_room}
 use Rattle.bounded.proofs.Filled.{room_filled, appended_filled}
 use Rattle.ballot.specs.declared.Batch.{Batch}
 use Rattle.ballot.specs.declared.Candidate.{Candidate}
 use Rattle.ballot.specs.declared.Contest.{Contest}
-use Rattle.ballot.specs.declared.Kind.{Kind}
-use Rattle.ballot.specs.declared.Kind.TheVariants.{Plurality, Approval, Supermajority}
 use Rattle.ballot.specs.Contests.{ContestFits, assertion_count, contest_from, kind_number, share_p, share_q}
 use Rattle.ballot.proofs.Described.{from_described}
-use Rattle.ballot.specs.Winners.{VotesFit, all_votes, has_winners, votes_fit}
+use Rattle.ballot.specs.Winners.{has_winners, votes_fit}
 use Rattle.format.specs.declared.command.Phase.{Phase}
 use Rattle.format.specs.declared.command.Phase.TheVariants as at
-use Rattle.format.specs.Format.{Cmd, opens, allowed}
+use Rattle.format.specs.Format.{opens}
 use Rattle.setup.specs.declared.progress.Progress.{Progress}
 use Rattle.setup.specs.declared.setup.PolicyChoice.{PolicyChoice}
 use Rattle.setup.specs.declared.setup.PolicyChoice.TheVariants.{Fixed, Shrinking}
 use Rattle.setup.specs.declared.setup.Terms.{Terms}
-use Rattle.setup.specs.Described.{Described, BatchesFit, PolicyFits, TermsFit, policy_number, weight_of, ContestStands, ContestsStand, WithinLimits, cards_in, assertions_in, batch_command, terms_command, contest_command, candidate_command, contest_commands, commands}
-use Rattle.setup.specs.Reading.{Lists, Stepped, admits, with_item, batch_objection, policy_from, terms_from, contest_objection, candidate_objection, slate_objection, after_terms, after_candidate, slate, step, step_contest, opened, nothing_read}
-use Rattle.setup.specs.Accepted.{HasPlaces, lists_with}
-use Rattle.setup.proofs.Leads.{Leads, here, then, leads_on}
+use Rattle.setup.specs.Described.{PolicyFits, TermsFit, policy_number, weight_of, batch_command, terms_command, contest_command, candidate_command}
+use Rattle.setup.specs.Reading.{Lists, Stepped, admits, with_item, batch_objection, policy_from, terms_from, contest_objection, candidate_objection, slate_objection, after_terms, after_candidate, slate, step, step_contest}
+use Rattle.setup.specs.Accepted.{lists_with}
 
 abbrev pub made : Phase → ℕ → Terms → ℕ → Contest → ℕ → Progress
 made ph n t a x r = record { phase = ph; cards = n; terms = t; assertions = a; contest = x; read = r }

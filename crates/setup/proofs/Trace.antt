@@ -1,5 +1,5 @@
 -- However a file is read, whole commands led to where the reading ended.
-use Rattle.std.proofs.Common.{◌≡◌, ℕ, zero, suc, ◌<◌, Bool, true, false, cond, eqb, ◌⊎◌, List, [], ◌∷◌, ◌++◌, length, Some, None, Ok, Err, Option, Result, sym, refl, ap, ◌∙◌, subst, inl, inr, ⊎_elim, arith, eqb-true}
+use Rattle.std.proofs.Common.{◌≡◌, ℕ, zero, suc, ◌<◌, Bool, true, false, cond, eqb, ◌⊎◌, List, [], ◌∷◌, length, Some, None, Ok, Err, Option, Result, sym, refl, ap, ◌∙◌, subst, inl, inr, ⊎_elim, arith, eqb-true}
 use Rattle.std.proofs.lemmas.List.{nil_from_length}
 use Rattle.std.proofs.lemmas.Bool.{cases_Bool}
 use Rattle.refusal.specs.declared.Refusal.{Refusal}
@@ -9,11 +9,11 @@ use Rattle.ballot.specs.declared.Batch.{Batch}
 use Rattle.ballot.specs.declared.Candidate.{Candidate}
 use Rattle.ballot.specs.declared.Contest.{Contest}
 use Rattle.ballot.specs.Contests.{contest_from}
-use Rattle.format.specs.Format.{Cmd, batch, terms, contest, candidate, opens, entry, verdict, escalate, count, close, Taken, allowed, code, next}
+use Rattle.format.specs.Format.{Cmd, batch, terms, contest, candidate, opens, entry, verdict, escalate, count, close, Taken, next}
 use Rattle.format.proofs.Writing.{taken_as_written, shorter}
 use Rattle.setup.specs.declared.progress.Progress.{Progress}
 use Rattle.setup.specs.Described.{WrittenBefore}
-use Rattle.setup.specs.Reading.{Lists, Outcome, Stepped, Turned, admits, batch_objection, candidate_objection, contest_objection, finished, opened, refused, run, setup_of, stays, step, step_contest, turn, with_item}
+use Rattle.setup.specs.Reading.{Lists, Outcome, admits, batch_objection, candidate_objection, contest_objection, finished, opened, refused, run, setup_of, step, step_contest, turn, with_item}
 use Rattle.setup.proofs.Leads.{Leads, here, then, turn_on}
 use Rattle.setup.proofs.Turns.{run_on, run_err, run_end}
 

@@ -1,5 +1,7 @@
 //! Judges every file that `cases.txt` names, a line for each; `tools/make_cases.py` writes them.
 //! Then the example, into lists with just enough places, and with one place too few.
+#![tactic(auto)]
+
 use bounded::List;
 use intake::memory::Memory;
 use intake::read_file;

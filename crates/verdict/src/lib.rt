@@ -1,4 +1,5 @@
 //! What an audit answers.
+#![tactic(auto)]
 
 /// What the members are to do next.
 #[derive(Clone, Copy, PartialEq, Eq, Debug)]

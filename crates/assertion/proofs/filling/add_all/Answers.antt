@@ -1,5 +1,5 @@
 use Rattle.std.proofs.Common.{◌≡◌, ◌+◌, ◌-◌, take, drop, refl, ◌∙◌, arith}
-use Rattle.assertion.specs.Assertions.{planned, planned_of}
+use Rattle.assertion.specs.Assertions.{planned_of}
 use Rattle.assertion.proofs.Growth.{toward_none, toward_more, toward_all, toward_room}
 use Rattle.assertion.proofs.Parts.{contest_at, part_within, planned_end, planned_here, stand_parts}
 use Rattle.assertion.proofs.filling.add_all.Goals as goal

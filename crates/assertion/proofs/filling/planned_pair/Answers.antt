@@ -1,7 +1,5 @@
-use Rattle.std.proofs.Common.{◌≡◌, [], rules}
+use Rattle.std.proofs.Common.{[]}
 use Rattle.std.proofs.lemmas.List.{get_or-map}
-use Rattle.ballot.specs.Winners.{votes_of}
-use Rattle.assertion.specs.Bets.{pair_bet}
 use Rattle.assertion.proofs.Growth.{same_bet}
 use Rattle.assertion.proofs.filling.planned_pair.Goals as goal
 

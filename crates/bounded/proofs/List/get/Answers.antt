@@ -1,4 +1,4 @@
-use Rattle.std.proofs.Common.{arith, rules}
+use Rattle.std.proofs.Common.{rules}
 use Rattle.std.proofs.lemmas.List.{length-take, get_or-take}
 use Rattle.bounded.proofs.Places.{item_at, item_past}
 use Rattle.bounded.proofs.List.get.Goals as goal

@@ -1,4 +1,4 @@
-use Rattle.std.proofs.Common.{◌+◌, ◌-◌, ◌∷◌, map, length, take, drop, sym, ap, ◌∙◌, arith}
+use Rattle.std.proofs.Common.{◌+◌, ◌∷◌, map, length, take, drop, sym, ap, ◌∙◌, arith}
 use Rattle.betting.specs.Accounts.{account}
 use Rattle.course.specs.Course.{rules_of}
 use Rattle.course.specs.Course.Answer.{taken}

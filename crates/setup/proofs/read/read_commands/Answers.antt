@@ -1,7 +1,7 @@
-use Rattle.std.proofs.Common.{◌≡◌, true, false, eqb, length, Ok, Err, sym, refl, ap, ◌∙◌, subst, arith, rules, eq-eqb, ne_eqb}
+use Rattle.std.proofs.Common.{◌≡◌, true, false, eqb, length, Err, sym, refl, ap, ◌∙◌, subst, arith, eq-eqb, ne_eqb}
 use Rattle.refusal.specs.declared.Fault.{Fault}
 use Rattle.setup.specs.declared.progress.Progress.{Progress}
-use Rattle.setup.specs.Reading.{Lists, Outcome, following, held_lists, opened, outcome, finished}
+use Rattle.setup.specs.Reading.{following, held_lists, opened, outcome}
 use Rattle.setup.proofs.Turns.{Reached, reached_start, reached_on, reached_refusal, reached_end}
 use Rattle.setup.proofs.read.read_commands.Goals as goal
 
