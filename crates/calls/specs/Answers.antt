@@ -12,7 +12,6 @@ use Rattle.calls.specs.declared.answers.CountCall.{CountCall}
 use Rattle.calls.specs.declared.answers.CountCall.TheVariants.{Count, Close}
 use Rattle.calls.specs.declared.answers.DrawCall.{DrawCall}
 use Rattle.calls.specs.declared.answers.DrawCall.TheVariants.{Entry, Verdict}
-use Rattle.calls.specs.declared.answers.Shown.{Shown}
 use Rattle.calls.specs.declared.answers.Standing.{Standing}
 use Rattle.calls.specs.declared.answers.Standing.TheVariants.{Drawing, Counting}
 use Rattle.calls.specs.declared.terms.Terms.{Terms}

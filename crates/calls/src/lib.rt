@@ -1,5 +1,7 @@
 //! The calls of an audit: it is opened, a card entered, a verdict asked, the audit escalated, a card
 //! counted, the hand count closed.
+#![tactic(auto)]
+
 mod answers;
 mod counting;
 mod drawing;

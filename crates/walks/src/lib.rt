@@ -1,4 +1,6 @@
 //! Walks over the records of an audit: what an entry and a count do to each, and what all of them tell.
+#![tactic(auto)]
+
 ghost use Rattle.std.specs.Prelude.{◌≡◌, ◌≤◌, map};
 ghost use Rattle.course.specs.Course.{after_count, after_entry, all_above, all_settled, rules_of, worst_risk};
 ghost use Rattle.betting.specs.Accounts.{account};

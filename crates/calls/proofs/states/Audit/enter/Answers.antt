@@ -1,4 +1,4 @@
-use Rattle.std.proofs.Common.{◌≡◌, ◌+◌, ◌-◌, ◌≤◌, map, length, take, sum, refl, ap, ◌∙◌, arith, rules}
+use Rattle.std.proofs.Common.{◌≡◌, ◌+◌, ◌≤◌, map, length, take, sum, refl, ap, ◌∙◌, arith, rules}
 use lib.ListN.{length-map}
 use Rattle.betting.specs.Accounts.{account}
 use Rattle.course.specs.Course.{after_entry, answered, rules_of, unless_refused}

@@ -1,4 +1,4 @@
-use Rattle.std.proofs.Common.{◌≡◌, true, false, ◌||◌, map, take, sym, ap, ◌∙◌, nat_le}
+use Rattle.std.proofs.Common.{◌≡◌, ◌||◌, map, take, sym, ap, ◌∙◌, nat_le}
 use Rattle.std.proofs.lemmas.List.{take-map}
 use Rattle.betting.specs.Accounts.{account}
 use Rattle.course.specs.Course.{all_settled}

@@ -3,7 +3,6 @@ use lib.ListN.{length-map}
 use Rattle.std.proofs.lemmas.List.{length-take, take-map}
 use Rattle.refusal.specs.declared.Refusal.TheVariants.{NoRoom}
 use Rattle.verdict.specs.declared.Finding.TheVariants.{Confirm, Continue, FullHandCount}
-use Rattle.verdict.specs.declared.Finding.{Finding}
 use Rattle.betting.specs.Accounts.{account}
 use Rattle.course.specs.Course.{answered, found_by, parts, risks, rules_of, step, unless_refused, worst_risk}
 use Rattle.course.specs.Course.Call.{verdict}

@@ -1,4 +1,4 @@
-use Rattle.std.proofs.Common.{◌≡◌, ◌/◌, ◌^◌, ◌<◌, ◌≤◌, sym, ◌∙◌, ⊎_elim, arith, pow_pos, pow_mono}
+use Rattle.std.proofs.Common.{◌/◌, ◌^◌, ◌≤◌, sym, ◌∙◌, ⊎_elim, arith, pow_pos, pow_mono}
 use native.Mathlib.Nat.{div-eq_of_lt}
 use Rattle.std.proofs.lemmas.Nat.{le-div}
 use Rattle.std.proofs.lemmas.Bool.{cases_lt, eq-eqb, le-leb, le-ltb, lt-ltb, ne_eqb}
