@@ -6,6 +6,7 @@ ghost use Rattle.course.specs.Course.Call.{closing, hand_count};
 ghost use Rattle.calls.specs.Calls.{called, count_state, first_refusal, KeptOnRefusal, taken_or, UpheldAlone, upheld_or};
 ghost use Rattle.calls.specs.Shapes.{shown, terms_of};
 
+use crate::records::count_all;
 use crate::states::HandCount;
 use crate::terms::{contests_above, shown_refusal};
 use assorter::Assorter;
@@ -13,7 +14,6 @@ use ballot::Card;
 use betting::{Policy, Record};
 use refusal::Refusal;
 use verdict::Closing;
-use walks::count_each;
 
 impl HandCount {
     /// Why a count is refused, if it is.
@@ -57,8 +57,7 @@ impl HandCount {
         if let Some(refusal) = self.count_refusal(records, place, found, card) {
             return Err(refusal);
         }
-        let needed = self.terms.needed;
-        count_each(&mut records[0..needed], found, card);
+        count_all(records, self.terms.needed, found, card);
         self.counted += 1;
         Ok(())
     }

@@ -7,6 +7,7 @@ ghost use Rattle.verdict.specs.declared.Finding.TheVariants.{Confirm, Continue, 
 ghost use Rattle.calls.specs.Calls.{audit_state, called, ConfirmsByRisk, DrawsWithin, finding_or, first_refusal, KeptOnRefusal, RisksAlone, taken_or};
 ghost use Rattle.calls.specs.Shapes.{shown, terms_of};
 
+use crate::records::{all_settled, enter_all};
 use crate::states::{Audit, HandCount};
 use crate::terms::{contest_risks, shown_refusal};
 use assorter::Assorter;
@@ -14,7 +15,6 @@ use ballot::Card;
 use betting::{Policy, Record};
 use refusal::Refusal;
 use verdict::{Finding, Verdict};
-use walks::{each_settled, enter_each};
 
 impl Audit {
     /// Whether no assertion wants a draw, or the draws are spent.
@@ -67,8 +67,8 @@ impl Audit {
         if let Some(refusal) = self.entry_refusal(records, place, found, card) {
             return Err(refusal);
         }
-        let needed = self.terms.needed;
-        enter_each(&mut records[0..needed], self.terms.risk_limit, found, card);
+        let terms = self.terms;
+        enter_all(records, terms.needed, terms.risk_limit, found, card);
         self.drawn += 1;
         Ok(())
     }
@@ -124,12 +124,4 @@ fn found_by(settled: bool, spent: bool) -> Finding
     } else {
         Finding::Continue
     }
-}
-
-/// Whether none of the first `count` records needs more draws at the risk limit.
-fn all_settled<A, P: Policy>(records: &[Record<A, P>], count: usize, limit: u16) -> bool
-    requires { count ≤ length records.now }
-    ensures { result ≡ all_settled limit (take count (map (account P.state) records.now)) }
-{
-    each_settled(&records[0..count], limit)
 }

@@ -8,6 +8,7 @@ mod drawing;
 mod lending;
 mod opened;
 mod opens;
+mod records;
 mod states;
 mod terms;
 

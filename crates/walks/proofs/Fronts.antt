@@ -1,10 +1,7 @@
 -- One step of a walk over the first elements of a list.
-use Rattle.std.proofs.Common.{◌≡◌, ℕ, zero, suc, ◌+◌, ◌<◌, ◌≤◌, List, [], ◌∷◌, ◌++◌, map, length, get_or, take, drop, set, sym, ap, ◌∙◌, le_of_suc-le-suc, not-suc-le-zero, add-one}
+use Rattle.std.proofs.Common.{◌≡◌, ℕ, zero, suc, ◌+◌, ◌<◌, ◌≤◌, List, [], ◌∷◌, ◌++◌, map, length, get_or, drop, set, sym, ap, ◌∙◌, le_of_suc-le-suc, not-suc-le-zero, add-one}
 use Rattle.std.proofs.lemmas.List.{append-nil, drop_all, get_or-map, map-set, take_all}
-
--- the first n of a list by f, the others as they are
-abbrev pub on_front : {X : Type 0} → (X → X) → ℕ → List X → List X
-on_front f n xs = map f (take n xs) ++ drop n xs
+use Rattle.walks.specs.Walks.{on_front}
 
 front_next :
     {X : Type 0} (f : X → X) (i : ℕ) (xs : List X) (x : X) → i < length xs → x ≡ get_or (on_front f i xs) i x →

@@ -1,14 +1,24 @@
-use Rattle.std.proofs.Common.{◌≡◌, ◌+◌, ◌-◌, ◌≤◌, map, length, take, sum, refl, ap, ◌∙◌, arith, rules}
-use Rattle.std.proofs.lemmas.List.{length-take}
+use Rattle.std.proofs.Common.{◌≡◌, ◌+◌, ◌≤◌, map, length, take, sum, refl, ap, ◌∙◌, arith, rules}
+use lib.ListN.{length-map}
 use Rattle.betting.specs.Accounts.{account}
 use Rattle.course.specs.Course.{after_entry, answered, rules_of, unless_refused}
 use Rattle.course.specs.Course.Call.{entry}
 use Rattle.course.specs.Course.Answer.{taken}
 use Rattle.calls.specs.Calls.{audit_state}
 use Rattle.calls.specs.Shapes.{shown, terms_of}
-use Rattle.calls.proofs.Fronts.{front_written, rest_kept}
+use Rattle.calls.proofs.Fronts.{front_of}
 use Rattle.calls.proofs.Refusals.{entry_left}
 use Rattle.calls.proofs.states.Audit.enter.Goals as goal
+
+pub enter_all-requires : goal.enter_all-requires
+enter_all-requires g c =
+    let t = terms_of c.args.self.now.terms in
+    let rs = c.args.records.now in
+    let σ = audit_state c.args.self.now (map (account {A = g.row.A.Denot} g.P.Policy.state) rs) in
+    let left = entry_left t (length rs) σ (shown c.args.place c.args.found c.args.card.now) c.in_default.ensures in
+    let total : c.args.self.now.terms.needed ≡ sum t.assertions = search rules in
+    let lowest : 10 ≤ c.args.self.now.terms.risk_limit = search rules in
+    (omega (arith, total, left.0), lowest)
 
 pub overflow_add-self : goal.overflow_add-self
 overflow_add-self g c =
@@ -29,20 +39,14 @@ returns g c =
     let n = c.args.self.now.terms.needed in
     let total : n ≡ sum t.assertions = search rules in
     let left = entry_left t (length rs) σ e c.in_default.ensures in
-    let ys = c.enter_each.new.records in
     let f = after_entry R t.limit e in
-    let whole : n - 0 ≡ n = omega arith in
-    let as_many : length ys ≡ n =
-    c.enter_each.auto.records ∙ ap (λ k. length (take k rs)) whole ∙ length-take n rs ∙ omega (arith, total, left.0) in
-    let lowest : 10 ≤ c.args.self.now.terms.risk_limit = search rules in
-    let new : map m ys ≡ map f (map m (take n rs)) =
-    c.enter_each.ensures.rules lowest ∙ ap (λ k. map f (map m (take k rs))) whole in
+    let enough : n ≤ length (map m rs) = omega (arith, total, left.0, length-map rs m) in
     record {
       course =
           ap (λ xs. (record { accounts = xs; drawn = c.args.self.now.drawn + 1; counted = 0 }, taken))
-          (front_written n rs ys as_many m f new)
+          (ap (take n) c.enter_all.ensures.moves ∙ front_of f n (map m rs) enough)
           ∙ ap (λ o. unless_refused o σ (answered R t σ (entry e))) c.in_default.ensures;
       terms = refl;
-      beyond = rest_kept n rs ys as_many;
+      beyond = c.enter_all.ensures.beyond;
       kept = (tt, tt);
     }

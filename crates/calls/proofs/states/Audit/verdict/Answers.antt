@@ -25,7 +25,8 @@ returns g c =
     let whole : n - 0 ≡ n = omega arith in
     let found : c.found_by.result ≡ found_by t σ =
     c.found_by.ensures
-    ∙ ap (λ b. cond b Confirm (cond (eqb σ.drawn t.draws) FullHandCount Continue)) c.all_settled-settled.ensures in
+    ∙ ap (λ b. cond b Confirm (cond (eqb σ.drawn t.draws) FullHandCount Continue)) c.all_settled-settled.ensures
+    ∙ ap (λ xs. found_by t (record { accounts = xs; drawn = σ.drawn; counted = σ.counted })) (sym (take-map m n rs)) in
     let told : take c.args.self.now.terms.contests c.contest_risks.result ≡ risks t σ =
     c.contest_risks.ensures.parts
     ∙ ap (λ k. map worst_risk (parts t.assertions (map m (take k rs)))) whole

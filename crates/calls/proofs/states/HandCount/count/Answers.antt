@@ -1,14 +1,23 @@
-use Rattle.std.proofs.Common.{◌≡◌, ◌+◌, ◌-◌, ◌≤◌, map, length, take, sum, refl, ap, ◌∙◌, arith, rules}
-use Rattle.std.proofs.lemmas.List.{length-take}
+use Rattle.std.proofs.Common.{◌≡◌, ◌+◌, ◌≤◌, map, length, take, sum, refl, ap, ◌∙◌, arith, rules}
+use lib.ListN.{length-map}
 use Rattle.betting.specs.Accounts.{account}
 use Rattle.course.specs.Course.{after_count, answered, rules_of, unless_refused}
 use Rattle.course.specs.Course.Call.{hand_count}
 use Rattle.course.specs.Course.Answer.{taken}
 use Rattle.calls.specs.Calls.{count_state}
 use Rattle.calls.specs.Shapes.{shown, terms_of}
-use Rattle.calls.proofs.Fronts.{front_written, rest_kept}
+use Rattle.calls.proofs.Fronts.{front_of}
 use Rattle.calls.proofs.Refusals.{count_left}
 use Rattle.calls.proofs.states.HandCount.count.Goals as goal
+
+pub count_all-requires : goal.count_all-requires
+count_all-requires g c =
+    let t = terms_of c.args.self.now.terms in
+    let rs = c.args.records.now in
+    let σ = count_state c.args.self.now (map (account {A = g.row.A.Denot} g.P.Policy.state) rs) in
+    let left = count_left t (length rs) σ (shown c.args.place c.args.found c.args.card.now) c.in_default.ensures in
+    let total : c.args.self.now.terms.needed ≡ sum t.assertions = search rules in
+    omega (arith, total, left.0)
 
 pub overflow_add-self : goal.overflow_add-self
 overflow_add-self g c =
@@ -29,19 +38,14 @@ returns g c =
     let n = c.args.self.now.terms.needed in
     let total : n ≡ sum t.assertions = search rules in
     let left = count_left t (length rs) σ e c.in_default.ensures in
-    let ys = c.count_each.new.records in
     let f = after_count R e in
-    let whole : n - 0 ≡ n = omega arith in
-    let as_many : length ys ≡ n =
-    c.count_each.auto.records ∙ ap (λ k. length (take k rs)) whole ∙ length-take n rs ∙ omega (arith, total, left.0) in
-    let new : map m ys ≡ map f (map m (take n rs)) =
-    c.count_each.ensures ∙ ap (λ k. map f (map m (take k rs))) whole in
+    let enough : n ≤ length (map m rs) = omega (arith, total, left.0, length-map rs m) in
     record {
       course =
           ap (λ xs. (record { accounts = xs; drawn = c.args.self.now.drawn; counted = c.args.self.now.counted + 1 }, taken))
-          (front_written n rs ys as_many m f new)
+          (ap (take n) c.count_all.ensures.moves ∙ front_of f n (map m rs) enough)
           ∙ ap (λ o. unless_refused o σ (answered R t σ (hand_count e))) c.in_default.ensures;
       terms = refl;
-      beyond = rest_kept n rs ys as_many;
+      beyond = c.count_all.ensures.beyond;
       kept = (tt, tt);
     }
