@@ -1,6 +1,6 @@
 //! The limits of a setup, part by part.
 ghost use Rattle.std.specs.Prelude.{◌≡◌, ◌≤◌, length, Decides};
-ghost use Rattle.std.specs.List.{AllByRecursion as All};
+ghost use Rattle.std.specs.List.{AllByRecursion};
 ghost use Rattle.setup.specs.Described.{assertions_in, ContestStands, ContestsStand, PolicyFits, TermsFit};
 ghost use Rattle.acceptance.specs.Held.{CanShare, CountsAgree};
 
@@ -73,7 +73,7 @@ pub(crate) fn counts_agree(setup: &Setup, contests: &[Contest], candidates: &[Ca
 
 /// Whether no candidate has more votes than there are cards.
 fn votes_within(cards: u16, candidates: &[Candidate]) -> bool
-    ensures { Decides result (All (λ c. c.votes ≤ cards) candidates.now) }
+    ensures { Decides result (AllByRecursion (λ c. c.votes ≤ cards) candidates.now) }
 {
     for candidate in candidates {
         if candidate.votes > cards {

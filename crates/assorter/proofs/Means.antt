@@ -1,6 +1,6 @@
 -- The claims that a contest's assertions make are that its reported winners truly won.
 use Rattle.std.proofs.Common.{◌≡◌, ℕ, ◌+◌, ◌*◌, ◌<◌, ◌≤◌, Bool, true, false, not, List, [], ◌∷◌, map, length, take, drop, Decides, count_by, sym, subst, arith}
-use Rattle.std.specs.List.{AllByRecursion as All}
+use Rattle.std.specs.List.{AllByRecursion}
 use Rattle.std.proofs.ByRecursion.{All-append, All-map}
 use Rattle.std.proofs.lemmas.Bool.{and_parts, lt-leb, not_from_false, not-true}
 use Rattle.ballot.specs.declared.Kind.{Kind}
@@ -43,12 +43,12 @@ module _ (k most : ℕ) (x : Contest) (cs : List Candidate) (cards : List Card) 
       let P : Plan → Type 0 = λ plan. Holds plan.claim cards in (
         λ h i j l m won lost.
             let a = all_from_joined P (pairs_under k most x cs) (winners x cs) h in
-            let b = kept_at (λ i'. All P (pairs_under k most x cs i')) w n a i l won in
+            let b = kept_at (λ i'. AllByRecursion P (pairs_under k most x cs i')) w n a i l won in
             let c = all_from_map P (pair_plan k most cs i) (losers x cs) b in
             kept_at (λ j'. v j' < v i) (λ j'. not (w j')) n c j m (not_from_false (w j) lost),
         λ h.
             all_joined P (pairs_under k most x cs) (winners x cs)
-            (all_kept (λ i. All P (pairs_under k most x cs i)) w n
+            (all_kept (λ i. AllByRecursion P (pairs_under k most x cs i)) w n
             (λ i l won.
             All-map P (pair_plan k most cs i) (losers x cs)
             (all_kept (λ j. v j < v i) (λ j. not (w j)) n (λ j m e. h i j l m won (not-true (w j) e))))),

@@ -1,7 +1,7 @@
 -- The marks of a contest one by one, and the votes that they give together.
 use Rattle.std.proofs.Common.{◌≡◌, ℕ, zero, suc, ◌+◌, ◌/◌, ◌%◌, ◌^◌, ◌<◌, Bool, true, false, cond, ◌&&◌, eqb, List, [], ◌∷◌, sum_by, count_by, sym, refl, ap, ◌∙◌, subst, add_comm, pow-suc, div-one, arith}
 use lib.Count.{ones, ones-le, ones_step}
-use Rattle.std.specs.List.{range_with_len, AllByRecursion as All}
+use Rattle.std.specs.List.{range_with_len, AllByRecursion}
 use Rattle.std.proofs.lemmas.Nat.{div_below, shr-shr}
 use Rattle.std.proofs.lemmas.List.Sums.{sum_by-cons}
 use Rattle.std.proofs.lemmas.Bool.{eqb-true}
@@ -62,7 +62,7 @@ one_vote c n true e h = omega (arith, eqb-true (ones n) 1 e, ones_by_places c n 
 one_vote c n false e h = sym (sum_none (range_with_len 0 c))
 
 add_up :
-    (c k : ℕ) (cards : List Card) → All (λ card. marks_of card k < 2 ^ c) cards →
+    (c k : ℕ) (cards : List Card) → AllByRecursion (λ card. marks_of card k < 2 ^ c) cards →
     count_by (λ card. eqb (ones (marks_of card k)) 1) cards
     ≡ sum_by (λ i. count_by (λ card. eqb (ones (marks_of card k)) 1 && marked i (marks_of card k)) cards) (range_with_len 0 c)
 add_up c k [] h = sym (sum_none (range_with_len 0 c))

@@ -1,6 +1,6 @@
 -- An audit just opened.
 use Rattle.std.proofs.Common.{◌≡◌, ℕ, zero, suc, ◌≤◌, Bool, true, false, ◌||◌, List, [], ◌∷◌, map, length, take, drop, Ok, sym, refl, ap, ◌∙◌, subst, arith}
-use Rattle.std.specs.List.{AllByRecursion as All}
+use Rattle.std.specs.List.{AllByRecursion}
 use Rattle.std.proofs.ByRecursion.{All-map, All-take, All-weaker}
 use Rattle.std.proofs.lemmas.Simd.{map-map}
 use Rattle.std.proofs.lemmas.List.{length-take-le, take_at}
@@ -39,11 +39,11 @@ module _ {A S : Type 0} where
 
   pub begun_by :
       (R : Rules A S) (s : Setup) (xs : List Contest) (accounts : List (Account A S)) (audit : Audit) → OfSetup s xs audit →
-      AlwaysPromised R audit → All Fresh (take s.assertions accounts) → Begun R s xs accounts audit
+      AlwaysPromised R audit → AllByRecursion Fresh (take s.assertions accounts) → Begun R s xs accounts audit
   begun_by R s xs accounts audit o promise fresh = record {
     of_setup = o;
     fresh = record {
-      fresh = subst (λ n. All Fresh (take n accounts)) (sym o.needed) fresh;
+      fresh = subst (λ n. AllByRecursion Fresh (take n accounts)) (sym o.needed) fresh;
       undrawn = o.undrawn;
       uncounted = refl;
     };
@@ -52,7 +52,7 @@ module _ {A S : Type 0} where
 
   -- ---- with the caller's own assorters and policies
 
-  started_fresh : (xs : List A) (ss : List S) → All Fresh (started xs ss)
+  started_fresh : (xs : List A) (ss : List S) → AllByRecursion Fresh (started xs ss)
   started_fresh [] ss = tt
   started_fresh (x ∷ xs) [] = tt
   started_fresh (x ∷ xs) (s ∷ ss) = (refl, started_fresh xs ss)
@@ -60,8 +60,8 @@ module _ {A S : Type 0} where
   -- the first n accounts were started
   pub with_fresh :
       (n : ℕ) (accounts : List (Account A S)) (xs : List A) (ss : List S) → take n accounts ≡ take n (started xs ss) →
-      All Fresh (take n accounts)
-  with_fresh n accounts xs ss e = subst (All Fresh) (sym e) (All-take Fresh n (started xs ss) (started_fresh xs ss))
+      AllByRecursion Fresh (take n accounts)
+  with_fresh n accounts xs ss e = subst (AllByRecursion Fresh) (sym e) (All-take Fresh n (started xs ss) (started_fresh xs ss))
 
 module _ {A P S : Type 0} (st : P → S) (xs : List A) (ps : List P) where
   enough_started : (n : ℕ) → n ≤ length xs → n ≤ length ps → n ≤ length (started xs (map st ps))
@@ -92,11 +92,11 @@ unseen_fresh x h =
     ap (λ w. to w x.peak x.tally) h.0 ∙ ap (λ p. to 1000000000 p x.tally) h.1 ∙ ap (to 1000000000 1000000000) h.2
 
 module _ (choice : PolicyChoice) (plans : List Plan) (ys : List (Account Assertion Chosen)) (same : map by_claim ys ≡ map (plan_account choice) plans) where
-  planned_fresh : All (λ x. x ≡ opened x.assorter x.state) ys
+  planned_fresh : AllByRecursion (λ x. x ≡ opened x.assorter x.state) ys
   planned_fresh =
       All-weaker (λ x. Unseen (by_claim x)) (λ x. x ≡ opened x.assorter x.state) unseen_fresh ys
       (all_from_map Unseen by_claim ys
-      (subst (All Unseen) (sym same)
+      (subst (AllByRecursion Unseen) (sym same)
       (All-map Unseen (plan_account choice) plans (all_of (λ plan. Unseen (plan_account choice plan)) (λ _. (refl, refl, refl)) plans))))
 
   planned_claims : map (λ x. claim_of x.assorter) ys ≡ map (λ plan. plan.claim) plans

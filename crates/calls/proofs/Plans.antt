@@ -1,7 +1,7 @@
 -- The accounts in which the planned assertions start.
 use Rattle.std.proofs.Common.{◌≡◌, ℕ, ◌+◌, ◌-◌, ◌*◌, ◌/◌, ◌<◌, ◌≤◌, Bool, true, false, cond, leb, List, [], ◌∷◌, ◌++◌, map, length, take, drop, Some, None, Ok, Err, sum_by, Result, sym, refl, ap, ◌∙◌, subst, arith}
 use lib.ListN.{length-map}
-use Rattle.std.specs.List.{AllByRecursion as All}
+use Rattle.std.specs.List.{AllByRecursion}
 use Rattle.std.proofs.ByRecursion.{All-append, All-map, All-weaker}
 use Rattle.std.proofs.lemmas.Simd.{map-map}
 use Rattle.std.proofs.lemmas.List.{take_at}
@@ -38,11 +38,11 @@ use Rattle.opening.specs.Starts.{after_start, shrinking_or, start_answer, starte
 use Rattle.calls.specs.Openings.{AsPlanned, PlansIfStarted, by_claim, plan_account}
 
 -- what holds of each element holds of all
-pub all_of : {X : Type 0} (P : X → Type 0) → ((x : X) → P x) → (xs : List X) → All P xs
+pub all_of : {X : Type 0} (P : X → Type 0) → ((x : X) → P x) → (xs : List X) → AllByRecursion P xs
 all_of P each [] = tt
 all_of P each (x ∷ xs) = (each x, all_of P each xs)
 
-map_same : {X Y : Type 0} (f g : X → Y) (xs : List X) → All (λ x. f x ≡ g x) xs → map f xs ≡ map g xs
+map_same : {X Y : Type 0} (f g : X → Y) (xs : List X) → AllByRecursion (λ x. f x ≡ g x) xs → map f xs ≡ map g xs
 map_same f g [] h = refl
 map_same f g (x ∷ xs) h = ap (λ y. y ∷ map f xs) h.0 ∙ ap (λ ys. g x ∷ ys) (map_same f g xs h.1)
 
@@ -60,20 +60,20 @@ pair_low winner loser = range_low (1000 * (winner - loser) / (winner + loser))
 share_low : (p q winner all : ℕ) → share_bet p q winner all ≤ 1000
 share_low p q winner all = range_low (1000 * (q * winner - p * all) / ((q - p) * all))
 
-pairs_low : (k most : ℕ) (x : Contest) (cs : List Candidate) → All Low (pairs_of k most x cs)
+pairs_low : (k most : ℕ) (x : Contest) (cs : List Candidate) → AllByRecursion Low (pairs_of k most x cs)
 pairs_low k most x cs =
     all_joined Low (pairs_under k most x cs) (winners x cs)
-    (all_of (λ w. All Low (pairs_under k most x cs w))
+    (all_of (λ w. AllByRecursion Low (pairs_under k most x cs w))
     (λ w. All-map Low (pair_plan k most cs w) (losers x cs) (all_of (λ l. Low (pair_plan k most cs w l)) (λ l. pair_low (votes_of cs w) (votes_of cs l)) (losers x cs)))
     (winners x cs))
 
-kind_low : (kind : Kind) (k : ℕ) (x : Contest) (cs : List Candidate) → All Low (planned_by kind k x cs)
+kind_low : (kind : Kind) (k : ℕ) (x : Contest) (cs : List Candidate) → AllByRecursion Low (planned_by kind k x cs)
 kind_low Plurality k x cs = pairs_low k x.seats x cs
 kind_low Approval k x cs = pairs_low k 32 x cs
 kind_low (Supermajority p q) k x cs =
     All-map Low (share_plan k p q cs) (winners x cs) (all_of (λ w. Low (share_plan k p q cs w)) (λ w. share_low p q (votes_of cs w) (all_votes cs)) (winners x cs))
 
-all_low : (k : ℕ) (xs : List Contest) (cs : List Candidate) → All Low (planned k xs cs)
+all_low : (k : ℕ) (xs : List Contest) (cs : List Candidate) → AllByRecursion Low (planned k xs cs)
 unfolding planned
 all_low k [] cs = tt
 all_low k (x ∷ xs) cs =
@@ -136,7 +136,7 @@ module _ (s : Setup) (xs : List Contest) (cs : List Candidate) (f : OpeningFacts
       map_same (λ x. by_claim (started_plan policy x)) (λ x. plan_account policy (meant x)) items
       (All-weaker (λ x. x.first_bet ≤ 1000) (λ x. by_claim (started_plan policy x) ≡ plan_account policy (meant x))
       (start_as_planned policy f.policy_fits) items
-      (all_from_map Low meant items (subst (All Low) (sym same) (all_low 0 xs cs))))
+      (all_from_map Low meant items (subst (AllByRecursion Low) (sym same) (all_low 0 xs cs))))
 
   all_start : (old new : List (Account Assertion Chosen)) → new ≡ map (started_plan policy) items ++ drop (length items) old → AsPlanned s xs cs new
   all_start old new e =

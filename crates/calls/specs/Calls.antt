@@ -1,6 +1,6 @@
 -- What each call of an audit answers and leaves, by the audit's course.
 use Rattle.std.specs.Prelude.{◌≡◌, ℕ, ◌≤◌, false, cond, List, take, Some, Ok, Err, sum, Option, Result, nat_lt}
-use Rattle.std.specs.List.{AllByRecursion as All}
+use Rattle.std.specs.List.{AllByRecursion}
 use Rattle.refusal.specs.declared.Refusal.{Refusal}
 use Rattle.refusal.specs.declared.Refusal.TheVariants.{NoRoom}
 use Rattle.betting.specs.Accounts.{Account}
@@ -36,7 +36,7 @@ DrawsWithin most (Err e) = Unit {0}
 
 -- A verdict confirms just when each contest's risk is at most the risk limit.
 abbrev pub ConfirmsByRisk : ℕ → Result Verdict Refusal → Type 0
-ConfirmsByRisk limit (Ok v) = JustWhen (v.finding ≡ Confirm) (All (λ r. r ≤ limit) (contest_risks v))
+ConfirmsByRisk limit (Ok v) = JustWhen (v.finding ≡ Confirm) (AllByRecursion (λ r. r ≤ limit) (contest_risks v))
 ConfirmsByRisk limit (Err e) = Unit {0}
 
 -- Past the contests a verdict holds zeros and a closing upholds nothing.

@@ -2,7 +2,7 @@
 use Rattle.std.proofs.Common.{◌≡◌, ℕ, zero, suc, ◌+◌, ◌*◌, ◌^◌, ◌<◌, ◌≤◌, List, [], ◌∷◌, ◌++◌, map, length, sum_by, sym, refl, ap, ◌∙◌, inl, inr, suc-le-suc, le_refl, suc-mul, add-mul, mul-zero, zero-mul, mul-add, arith, length-append}
 use native.Mathlib.Nat.{le_step, pow-succ', pow-zero}
 use lib.ListN.{length-map}
-use Rattle.std.specs.List.{AllByRecursion as All}
+use Rattle.std.specs.List.{AllByRecursion}
 use Rattle.std.proofs.lemmas.List.Sums.{sum_by-cons}
 use Rattle.std.proofs.lemmas.Bool.{cases_eq}
 use Rattle.chance.specs.Sequences.{places, each, sequences, Counted, AllSequences}
@@ -133,7 +133,7 @@ module _ (i : ℕ) (s : List ℕ) (ss : List (List ℕ)) where
             rw sum at (counted_join (behind_other (suc n) other) (behind_places n m lo (omega arith) c))
       ]
 
-once : (N n : ℕ) (s : List ℕ) → length s ≡ n → All (λ i. (1 ≤ i) × (i ≤ N)) s → Counted (λ u. u ≡ s) (sequences N n) 1
+once : (N n : ℕ) (s : List ℕ) → length s ≡ n → AllByRecursion (λ i. (1 ≤ i) × (i ≤ N)) s → Counted (λ u. u ≡ s) (sequences N n) 1
 once N zero [] e h = has refl none
 once N zero (i ∷ s) e h = absurd (omega arith)
 once N (suc n) [] e h = absurd (omega arith)

@@ -1,6 +1,6 @@
 -- A hand count of all places decides each contest.
 use Rattle.std.proofs.Common.{◌≡◌, ℕ, zero, suc, ◌+◌, ◌-◌, ◌*◌, ◌<◌, ◌≤◌, Bool, true, false, cond, eqb, ltb, List, [], ◌∷◌, ◌++◌, map, length, get_or, take, drop, Some, None, sum_by, Option, sym, refl, ap, ◌∙◌, subst, le_trans, le_of_eq, le_refl, arith, take_all}
-use Rattle.std.specs.List.{AllZip, AllByRecursion as All}
+use Rattle.std.specs.List.{AllZip, AllByRecursion}
 use Rattle.std.proofs.lemmas.List.Sums.{sum_by-cons}
 use Rattle.std.proofs.lemmas.Bool.{and_from, and_parts, cond-false, eq-eqb, le-ltb, lt-ltb, ltb-true}
 use Rattle.refusal.specs.declared.Refusal.{Refusal}
@@ -27,7 +27,7 @@ module _ {X : Type 0} where
   each_map P Q f to (x ∷ xs) (y ∷ ys) h = (to x y h.0, each_map P Q f to xs ys h.1)
 
   module _ (P : X → X → Type 0) where
-    each_same : (xs : List X) → All (λ x. P x x) xs → AllZip P xs xs
+    each_same : (xs : List X) → AllByRecursion (λ x. P x x) xs → AllZip P xs xs
     each_same [] h = tt
     each_same (x ∷ xs) h = (h.0, each_same xs h.1)
 
@@ -86,7 +86,7 @@ module _ {A S : Type 0} (R : Rules A S) (t : Terms) where
     before_step xs σ (hand_count e) h k = elim h [ ]
     before_step xs σ closing h k = elim h [ ]
 
-    before_run : (xs : List (Account A S)) (σ : State A S) (cs : List Call) → All BeforeEscalation cs → CountedTo xs 0 σ → CountedTo xs 0 (left_by R t σ cs)
+    before_run : (xs : List (Account A S)) (σ : State A S) (cs : List Call) → AllByRecursion BeforeEscalation cs → CountedTo xs 0 σ → CountedTo xs 0 (left_by R t σ cs)
     before_run xs σ [] h k = k
     before_run xs σ (c ∷ cs) h k = before_run xs (step R t σ c).0 cs h.1 (before_step xs σ c h.0 k)
 
@@ -144,7 +144,7 @@ module _ {A S : Type 0} (R : Rules A S) (t : Terms) where
           (sum_le (λ i. R.value a (get_or b.cards (i - 1) blank_card)) _ (places t.cards) (λ i. le_of_eq (sym (ap (shown_value R a) (cond-false (b.missing i) (show_missing i) (show_card b i) (found i))))))
 
       -- one contest's part
-      only_true : (xs ys : List (Account A S)) → AllZip (TalliedTo t.cards) xs ys → all_above R t.cards ys ≡ true → All (λ x. R.claim x.assorter b.cards) xs
+      only_true : (xs ys : List (Account A S)) → AllZip (TalliedTo t.cards) xs ys → all_above R t.cards ys ≡ true → AllByRecursion (λ x. R.claim x.assorter b.cards) xs
       only_true [] [] h e = tt
       only_true [] (y ∷ ys) h e = elim h [ ]
       only_true (x ∷ xs) [] h e = elim h [ ]
@@ -153,7 +153,7 @@ module _ {A S : Type 0} (R : Rules A S) (t : Terms) where
           let above : R.half x.assorter * length b.cards < y.tally = subst (λ a. R.half a * length b.cards < y.tally) h.0.0 (subst (λ n. R.half y.assorter * n < y.tally) (sym fits.number) (ltb-true _ _ both.0)) in
           ((law.exact x.assorter b.cards).1 (omega (arith, above, h.0.1, total_le x.assorter)), only_true xs ys h.1 both.1)
 
-      all_true : ((i : ℕ) → b.missing i ≡ false) → (xs ys : List (Account A S)) → AllZip (TalliedTo t.cards) xs ys → All (λ x. R.claim x.assorter b.cards) xs → all_above R t.cards ys ≡ true
+      all_true : ((i : ℕ) → b.missing i ≡ false) → (xs ys : List (Account A S)) → AllZip (TalliedTo t.cards) xs ys → AllByRecursion (λ x. R.claim x.assorter b.cards) xs → all_above R t.cards ys ≡ true
       all_true found [] [] h c = refl
       all_true found [] (y ∷ ys) h c = elim h [ ]
       all_true found (x ∷ xs) [] h c = elim h [ ]
@@ -163,11 +163,11 @@ module _ {A S : Type 0} (R : Rules A S) (t : Terms) where
           let half : R.half y.assorter * t.cards < y.tally = subst (λ n. R.half y.assorter * n < y.tally) fits.number (subst (λ a. R.half a * length b.cards < y.tally) (sym h.0.0) above) in
           and_from (ltb (R.half y.assorter * t.cards) y.tally) (all_above R t.cards ys) (lt-ltb _ _ half) (all_true found xs ys h.1 c.1)
 
-      fresh_tallies : (xs : List (Account A S)) → All (λ x. x ≡ opened x.assorter x.state) xs → All (λ x. TalliedTo 0 x x) xs
+      fresh_tallies : (xs : List (Account A S)) → AllByRecursion (λ x. x ≡ opened x.assorter x.state) xs → AllByRecursion (λ x. TalliedTo 0 x x) xs
       fresh_tallies [] h = tt
       fresh_tallies (x ∷ xs) h = ((refl, ap (λ (y : Account A S). y.tally) h.0), fresh_tallies xs h.1)
 
-      closes_rightly : (σ : State A S) → Opened σ → (before : List Call) → All BeforeEscalation before → ClosesRightly R t σ before b
+      closes_rightly : (σ : State A S) → Opened σ → (before : List Call) → AllByRecursion BeforeEscalation before → ClosesRightly R t σ before b
       closes_rightly σ o before h =
           let xs = σ.accounts in
           let start : CountedTo xs 0 σ = record { number = o.uncounted; tallies = each_same (TalliedTo 0) xs (fresh_tallies xs o.fresh) } in
@@ -178,14 +178,14 @@ module _ {A S : Type 0} (R : Rules A S) (t : Terms) where
           let ended : (step R t τ closing).1 ≡ upheld us = ap (λ (y : State A S × Answer). y.1) (taken_step R t τ closing (cond-false _ _ _ (le-ltb τ.counted t.cards (omega (arith, all.number))))) in
           let whole : left_by R t σ (before ++ (escalation ∷ counts_to b t.cards)) ≡ τ = left_append σ before (escalation ∷ counts_to b t.cards) in
           let only : (k : ℕ) → k < length t.assertions → get_or us k false ≡ true → ClaimsHold R t σ b k =
-          λ k lt. part_decided (TalliedTo t.cards) (all_above R t.cards) (λ v ys. v ≡ true → All (λ x. R.claim x.assorter b.cards) ys) only_true t.assertions xs τ.accounts k lt all.tallies in
+          λ k lt. part_decided (TalliedTo t.cards) (all_above R t.cards) (λ v ys. v ≡ true → AllByRecursion (λ x. R.claim x.assorter b.cards) ys) only_true t.assertions xs τ.accounts k lt all.tallies in
           record {
             outcomes = us;
             answer = ap (λ (y : State A S). (step R t y closing).1) whole ∙ ended;
             only_if = only;
             just_when = λ found k lt. (
               only k lt,
-              part_decided (TalliedTo t.cards) (all_above R t.cards) (λ v ys. All (λ x. R.claim x.assorter b.cards) ys → v ≡ true) (all_true found) t.assertions xs τ.accounts k lt all.tallies,
+              part_decided (TalliedTo t.cards) (all_above R t.cards) (λ v ys. AllByRecursion (λ x. R.claim x.assorter b.cards) ys → v ≡ true) (all_true found) t.assertions xs τ.accounts k lt all.tallies,
             );
           }
 

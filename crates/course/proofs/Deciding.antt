@@ -1,7 +1,7 @@
 -- Both events of the bounds are decided, so they have a count.
 use Rattle.std.proofs.Common.{◌≡◌, ℕ, zero, suc, ◌*◌, Bool, true, false, ◌⊎◌, List, [], ◌∷◌, length, get_or, sum_by, refl, inl, inr, ⊎_elim, arith}
 use native.Mathlib.Decide.{dec_le, dec_lt}
-use Rattle.std.specs.List.{AllByRecursion as All}
+use Rattle.std.specs.List.{AllByRecursion}
 use Rattle.std.proofs.lemmas.Bool.{cases_lt, false≢true}
 use Rattle.ballot.specs.declared.Card.{Card}
 use Rattle.chance.specs.Sequences.{sequences}
@@ -25,7 +25,7 @@ any_decided P dec [] = no (λ m. m)
 any_decided P dec (x ∷ xs) = either (dec x) (any_decided P dec xs)
 
 -- each element has the property, or some lacks it
-pub all_or_any : {X : Type 0} (P : X → Type 0) → ((x : X) → P x ⊎ (P x → ⊥)) → (xs : List X) → All P xs ⊎ Any (λ x. P x → ⊥) xs
+pub all_or_any : {X : Type 0} (P : X → Type 0) → ((x : X) → P x ⊎ (P x → ⊥)) → (xs : List X) → AllByRecursion P xs ⊎ Any (λ x. P x → ⊥) xs
 all_or_any P decided [] = inl tt
 all_or_any P decided (x ∷ xs) =
     ⊎_elim

@@ -1,6 +1,6 @@
 -- What the accounts of the contests' own assertions tell of the outcomes.
 use Rattle.std.proofs.Common.{◌≡◌, ℕ, zero, suc, ◌+◌, ◌<◌, true, ◌⊎◌, List, [], ◌∷◌, ◌++◌, map, length, get_or, take, drop, sym, refl, ap, ◌∙◌, subst, inl, inr, ⊎_elim, arith}
-use Rattle.std.specs.List.{AllByRecursion as All}
+use Rattle.std.specs.List.{AllByRecursion}
 use Rattle.std.proofs.ByRecursion.{All-map}
 use Rattle.std.proofs.lemmas.List.{drop_at, drop-map, take_at, take-map}
 use Rattle.std.proofs.lemmas.Bool.{and_parts, cases_lt}
@@ -24,7 +24,7 @@ use Rattle.course.specs.Openings.{own_rules, ContradictedWhenLost, LimitsWrongBo
 use Rattle.course.proofs.Deciding.{all_or_any}
 
 -- accounts just opened have seen no card
-pub opened_all : {X A S : Type 0} (f : X → A) (g : X → S) (ys : List X) → All (λ x. x ≡ opened x.assorter x.state) (map (λ y. opened (f y) (g y)) ys)
+pub opened_all : {X A S : Type 0} (f : X → A) (g : X → S) (ys : List X) → AllByRecursion (λ x. x ≡ opened x.assorter x.state) (map (λ y. opened (f y) (g y)) ys)
 opened_all f g [] = tt
 opened_all f g (y ∷ ys) = (refl, opened_all f g ys)
 
@@ -36,7 +36,7 @@ holds_or_not : (c : Claim) (cards : List Card) → Holds c cards ⊎ (Holds c ca
 holds_or_not (pair k most w l) cards = less_or_not _ _
 holds_or_not (share k w p q) cards = less_or_not _ _
 
-some_not_all : {X : Type 0} (P : X → Type 0) (xs : List X) → Any (λ x. P x → ⊥) xs → All P xs → ⊥
+some_not_all : {X : Type 0} (P : X → Type 0) (xs : List X) → Any (λ x. P x → ⊥) xs → AllByRecursion P xs → ⊥
 some_not_all P [] bad all = bad
 some_not_all P (x ∷ xs) bad all = ⊎_elim (λ f. f all.0) (λ rest. some_not_all P xs rest all.1) bad
 
@@ -48,8 +48,8 @@ module _ {X Y Z : Type 0} (f : X → Z) (g : Y → Z) (xs : List X) (front back 
   back_same : map f (drop n xs) ≡ map g back
   back_same = sym (drop-map f n xs) ∙ ap (drop n) same ∙ drop-map g n (front ++ back) ∙ ap (map g) (drop_at front back n cut)
 
-all_same : {X Y Z : Type 0} (P : Z → Type 0) (f : X → Z) (g : Y → Z) (xs : List X) (ys : List Y) → map f xs ≡ map g ys → All (λ x. P (f x)) xs → All (λ y. P (g y)) ys
-all_same P f g xs ys same h = all_from_map P g ys (subst (All P) same (All-map P f xs h))
+all_same : {X Y Z : Type 0} (P : Z → Type 0) (f : X → Z) (g : Y → Z) (xs : List X) (ys : List Y) → map f xs ≡ map g ys → AllByRecursion (λ x. P (f x)) xs → AllByRecursion (λ y. P (g y)) ys
+all_same P f g xs ys same h = all_from_map P g ys (subst (AllByRecursion P) same (All-map P f xs h))
 
 -- what an account and a plan claim
 abbrev says : Account Assertion Chosen → Claim
@@ -62,7 +62,7 @@ plans plan = plan.claim
 part_won :
     (j k : ℕ) (xs : List Contest) (cs : List Candidate) (ys : List (Account Assertion Chosen)) → each_stands xs cs ≡ true →
     map says ys ≡ map plans (planned j xs cs) → k < length xs → (cards : List Card) →
-    JustWhen (All (λ x. Holds (says x) cards) (get_or (parts (map assertion_count xs) ys) k [])) (WonFrom j k xs cs cards)
+    JustWhen (AllByRecursion (λ x. Holds (says x) cards) (get_or (parts (map assertion_count xs) ys) k [])) (WonFrom j k xs cs cards)
 unfolding planned each_stands
 part_won j k [] cs ys h same inside cards = absurd (omega arith)
 part_won j zero (x ∷ xs) cs ys h same inside cards =
@@ -90,8 +90,8 @@ module _ (xs : List Contest) (cs : List Candidate) (t : Terms) (σ : State Asser
       let P : Account Assertion Chosen → Type 0 = λ x. Holds (says x) b.cards in
       let part = accounts_of own_rules t σ k in
       let W = Won k xs cs b.cards in
-      let tell : JustWhen (All P part) W =
-      subst (λ ns. JustWhen (All P (get_or (parts ns σ.accounts) k [])) W) (sym own.parts_are)
+      let tell : JustWhen (AllByRecursion P part) W =
+      subst (λ ns. JustWhen (AllByRecursion P (get_or (parts ns σ.accounts) k [])) W) (sym own.parts_are)
       (part_won 0 k xs cs σ.accounts own.stand own.claims_are inside b.cards) in (
         λ bad won. some_not_all P part bad (tell.1 won),
         λ lost. ⊎_elim (λ all. absurd (lost (tell.0 all))) (λ bad. bad) (all_or_any P (λ x. holds_or_not (says x) b.cards) part),

@@ -1,7 +1,7 @@
 -- Laws over runs: draw counts, confirmations, and settled accounts.
 use Rattle.std.proofs.Common.{◌≡◌, ℕ, zero, suc, ◌+◌, ◌^◌, ◌<◌, ◌≤◌, Bool, true, false, cond, ◌&&◌, eqb, List, [], ◌∷◌, map, length, get_or, take, drop, Decides, sum, sym, refl, ap, ◌∙◌, subst, arith, length-drop}
 use lib.ListN.{length-map}
-use Rattle.std.specs.List.{AllByRecursion as All}
+use Rattle.std.specs.List.{AllByRecursion}
 use Rattle.std.proofs.lemmas.List.Sums.{sum_by-cons}
 use Rattle.std.proofs.lemmas.Bool.{and_from, and_parts, cond-true}
 use Rattle.betting.specs.Accounts.{Account, moved}
@@ -38,7 +38,7 @@ module _ {A S : Type 0} where
   settled_parts limit (suc n) (x ∷ xs) = and_assoc (settled x.peak limit) _ _ _ (settled_parts limit n xs)
 
   -- all accounts are settled just when each contest's risk is low
-  settled_risks : (limit : ℕ) → limit < 2 ^ 16 → (ns : List ℕ) (xs : List (Account A S)) → length xs ≤ sum ns → Decides (all_settled limit xs) (All (λ r. r ≤ limit) (map worst_risk (parts ns xs)))
+  settled_risks : (limit : ℕ) → limit < 2 ^ 16 → (ns : List ℕ) (xs : List (Account A S)) → length xs ≤ sum ns → Decides (all_settled limit xs) (AllByRecursion (λ r. r ≤ limit) (map worst_risk (parts ns xs)))
   settled_risks limit h [] [] few = (λ _. tt, λ _. refl)
   settled_risks limit h [] (x ∷ xs) few = absurd (omega arith)
   settled_risks limit h (n ∷ ns) xs few =
@@ -75,8 +75,8 @@ module _ {A S : Type 0} (R : Rules A S) where
       let is = confirm_is (all_settled t.limit τ.accounts) (eqb τ.drawn t.draws) in
       let same-finding : found_by t τ ≡ f = cc in
       let same-risks : risks t τ ≡ rs = cc in (
-        λ c. subst (All (λ r. r ≤ t.limit)) same-risks (all.0 (is.1 (same-finding ∙ c))),
-        λ low. sym same-finding ∙ is.0 (all.1 (subst (All (λ r. r ≤ t.limit)) (sym same-risks) low)),
+        λ c. subst (AllByRecursion (λ r. r ≤ t.limit)) same-risks (all.0 (is.1 (same-finding ∙ c))),
+        λ low. sym same-finding ∙ is.0 (all.1 (subst (AllByRecursion (λ r. r ≤ t.limit)) (sym same-risks) low)),
       )
 
   -- only a taken entry adds to the draw count

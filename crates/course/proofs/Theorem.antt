@@ -3,7 +3,7 @@ use Rattle.std.proofs.Common.{◌≡◌, ℕ, ◌+◌, ◌-◌, ◌*◌, ◌^◌
 use native.Mathlib.Nat.{le-max_left}
 use Rattle.std.proofs.Math.ListN
 use lib.ListN.{length-map}
-use Rattle.std.specs.List.{AllByRecursion as All}
+use Rattle.std.specs.List.{AllByRecursion}
 use Rattle.std.proofs.ByRecursion.{All-get_or}
 use Rattle.std.proofs.lemmas.List.Sums.{sum_by_more}
 use Rattle.std.proofs.lemmas.Bool.{cases_lt}
@@ -67,11 +67,11 @@ module _ {A S : Type 0} (R : Rules A S) (t : Terms) (b : Ballot) where
 
   -- what every answer of a script has, where K is what every call keeps
   module _ (K : State A S → Type 0) (keep-entry : (σ : State A S) (e : Shown) → K σ → K (step R t σ (entry e)).0) (keep-hand : (σ : State A S) (h : Hand t) → K σ → K (step R t σ (hand_call t b h)).0) (Q : After → Type 0) (up : (σ : State A S) (c : Call) → K σ → Q (step R t σ c)) where
-    hands_all : (σ : State A S) (hs : List (Hand t)) → K σ → All Q (course R t σ (map (hand_call t b) hs))
+    hands_all : (σ : State A S) (hs : List (Hand t)) → K σ → AllByRecursion Q (course R t σ (map (hand_call t b) hs))
     hands_all σ [] k = tt
     hands_all σ (h ∷ hs) k = (up σ (hand_call t b h) k, hands_all (step R t σ (hand_call t b h)).0 hs (keep-hand σ h k))
 
-    pub script_all : (σ : State A S) (ms : List (Move t)) (hs : Option (List (Hand t))) (s : List ℕ) → K σ → All Q (course R t σ (calls t b ms hs s))
+    pub script_all : (σ : State A S) (ms : List (Move t)) (hs : Option (List (Hand t))) (s : List ℕ) → K σ → AllByRecursion Q (course R t σ (calls t b ms hs s))
     script_all σ [] None s k = tt
     script_all σ [] (Some hs) s k = (up σ escalation k, hands_all σ hs k)
     script_all σ (Move.drawn ∷ ms) hs [] k = tt
@@ -308,7 +308,7 @@ module _ {A S : Type 0} (R : Rules A S) (t : Terms) (law : Lawful R) (σ : State
       (all_or_any (λ x. R.claim x.assorter b.cards) (λ x. claim_or_not R law x.assorter b.cards) (accounts_of R t σ k)))
       (λ _. tt)
 
-  pub all_truly : (ms : List (Move t)) (hs : Option (List (Hand t))) (s : List ℕ) → All (UpholdsTruly R t σ b) (course R t σ (calls t b ms hs s))
+  pub all_truly : (ms : List (Move t)) (hs : Option (List (Hand t))) (s : List ℕ) → AllByRecursion (UpholdsTruly R t σ b) (course R t σ (calls t b ms hs s))
   all_truly ms hs s = script_all R t b KeepsAll (λ τ e ks k' f'. keeps_entry k' f' τ e (ks k' f')) (λ τ h ks k' f'. keeps_hand k' f' τ h (ks k' f')) (UpholdsTruly R t σ b) truly σ ms hs s (λ k' f'. start k' f')
 
 module _ {A S : Type 0} (R : Rules A S) (law : Lawful R) where

@@ -1,6 +1,6 @@
 -- The two bounds on an audit of a contest that the cards contradict.
 use Rattle.std.specs.Prelude.{◌≡◌, ℕ, ◌*◌, ◌^◌, ◌<◌, ◌≤◌, true, false, ◌⊎◌, List, [], ◌∷◌, length, Option, slice_index, slice_index_or}
-use Rattle.std.specs.List.{AllByRecursion as All}
+use Rattle.std.specs.List.{AllByRecursion}
 use Rattle.chance.specs.Sequences.{sequences, Counted}
 use Rattle.betting.specs.Accounts.{Account, opened}
 use Rattle.verdict.specs.declared.Finding.{Finding}
@@ -23,11 +23,11 @@ Confirms FullHandCount = ⊥
 -- The ballot has the audit's cards, each marked for candidates alone.
 pub record Fits (t : Terms) (b : Ballot) : Type 0 where
   pub number : length b.cards ≡ t.cards
-  pub marked : All (λ card. marks_fit t.candidates card.marks ≡ true) b.cards
+  pub marked : AllByRecursion (λ card. marks_fit t.candidates card.marks ≡ true) b.cards
 
 -- An audit just opened: its accounts have seen no card.
 pub record Opened {A S : Type 0} (σ : State A S) : Type 0 where
-  pub fresh : All (λ x. x ≡ opened x.assorter x.state) σ.accounts
+  pub fresh : AllByRecursion (λ x. x ≡ opened x.assorter x.state) σ.accounts
   pub undrawn : σ.drawn ≡ 0
   pub uncounted : σ.counted ≡ 0
 

@@ -1,6 +1,6 @@
 -- Laws over whole runs of an audit.
 use Rattle.std.specs.Prelude.{◌≡◌, ℕ, zero, suc, ◌+◌, ◌^◌, ◌<◌, ◌≤◌, Bool, true, false, List, [], ◌∷◌, ◌++◌, length, get_or, sum, Option, slice_index_or}
-use Rattle.std.specs.List.{AllByRecursion as All}
+use Rattle.std.specs.List.{AllByRecursion}
 use Rattle.assorter.specs.Law.{JustWhen}
 use Rattle.betting.specs.Accounts.{Account}
 use Rattle.betting.specs.Sums.{settled}
@@ -64,7 +64,7 @@ module _ {A S : Type 0} (R : Rules A S) (t : Terms) where
 
   -- All claims of contest k hold of the cards.
   abbrev pub ClaimsHold : State A S → Ballot → ℕ → Type 0
-  ClaimsHold σ b k = All (λ x. R.claim x.assorter b.cards) (accounts_of R t σ k)
+  ClaimsHold σ b k = AllByRecursion (λ x. R.claim x.assorter b.cards) (accounts_of R t σ k)
 
   -- The call upholds only contests whose claims hold.
   abbrev pub UpholdsTruly : State A S → Ballot → State A S × Answer → Type 0
@@ -92,7 +92,7 @@ module _ {A S : Type 0} (R : Rules A S) where
   ConfirmsByRisk =
       (t : Terms) (σ : State A S) → sum t.assertions ≡ length σ.accounts → t.limit < 2 ^ 16 →
       (cs : List Call) (f : Finding) (d : ℕ) (rs : List ℕ) → Finds R t σ cs f d rs →
-      JustWhen (f ≡ Confirm) (All (λ r. r ≤ t.limit) rs)
+      JustWhen (f ≡ Confirm) (AllByRecursion (λ r. r ≤ t.limit) rs)
 
   -- Every verdict's draw count is the number of entries that were taken.
   abbrev pub CountsDraws : Type 0
@@ -111,11 +111,11 @@ module _ {A S : Type 0} (R : Rules A S) where
   abbrev pub CountsDecide : Type 0
   CountsDecide =
       (t : Terms) (σ : State A S) → Opened σ → t.cards ≤ 65535 →
-      (before : List Call) → All BeforeEscalation before → (b : Ballot) → Fits t b → ClosesRightly R t σ before b
+      (before : List Call) → AllByRecursion BeforeEscalation before → (b : Ballot) → Fits t b → ClosesRightly R t σ before b
 
   -- No script upholds a contest of which a claim is false.
   abbrev pub NeverUpholdsWrongly : Type 0
   NeverUpholdsWrongly =
       (t : Terms) (σ : State A S) → Opened σ → (b : Ballot) → Fits t b →
       (ms : List (Move t)) (hs : Option (List (Hand t))) (s : List ℕ) →
-      All (UpholdsTruly R t σ b) (course R t σ (calls t b ms hs s))
+      AllByRecursion (UpholdsTruly R t σ b) (course R t σ (calls t b ms hs s))

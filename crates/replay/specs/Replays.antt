@@ -1,7 +1,7 @@
 -- How far a draws file is followed on an audit, and with which answers.
 use Rattle.std.specs.Prelude.{◌≡◌, ℕ, ◌+◌, ◌*◌, ◌≤◌, true, ◌⊎◌, List, [], ◌∷◌, map, length, Some, None, Ok, Err, sum, Option, slice_index}
 use Rattle.std.specs.Option.{option_to_list}
-use Rattle.std.specs.List.{flat_map, AllByRecursion as All}
+use Rattle.std.specs.List.{flat_map, AllByRecursion}
 use Rattle.refusal.specs.declared.Fault.{Fault}
 use Rattle.refusal.specs.declared.File.TheVariants.{Draws}
 use Rattle.refusal.specs.declared.Refusal.{Refusal}
@@ -92,7 +92,7 @@ module _ {A S : Type 0} (R : Rules A S) (t : Terms) where
     pub written : WrittenBefore commands file rest
     pub in_order : InOrder at.Drawing commands ph
     pub answers_are : answers ≡ map (λ x. x.1) (course.course R t before (calls_of commands))
-    pub none_refused : All Accepts answers
+    pub none_refused : AllByRecursion Accepts answers
     pub left : after ≡ left_by R t before (calls_of commands)
 
   -- A command that is read is refused with the refusal of the call that it asks.

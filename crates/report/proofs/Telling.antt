@@ -3,7 +3,7 @@ use Rattle.std.proofs.Common.{◌≡◌, ℕ, ◌+◌, ◌^◌, ◌<◌, cond, e
 use Rattle.std.proofs.lemmas.Fmt.{decimal_injective}
 use Rattle.std.proofs.lemmas.List.{append_assoc, append_cancel_left, length-take}
 use Rattle.std.proofs.lemmas.List.Sums.{sum_by-cons}
-use Rattle.std.specs.List.{AllByRecursion as All}
+use Rattle.std.specs.List.{AllByRecursion}
 use Rattle.verdict.specs.Contests.{contest_risks}
 use Rattle.verdict.specs.declared.Verdict.{Verdict}
 use Rattle.verdict.specs.declared.Finding.{Finding}
@@ -37,7 +37,7 @@ first_line (x ∷ xs) (y ∷ ys) a b p q e =
     let t = r.0 in (cc, r.1)
 
 risks_told : (n : ℕ) (xs ys a b : List ℕ) → n + length xs < 2 ^ 8 → length xs ≡ length ys →
-    All (λ r. r < 2 ^ 16) xs → All (λ r. r < 2 ^ 16) ys →
+    AllByRecursion (λ r. r < 2 ^ 16) xs → AllByRecursion (λ r. r < 2 ^ 16) ys →
     numbered risk_line n xs ++ a ≡ numbered risk_line n ys ++ b → (xs ≡ ys) × (a ≡ b)
 risks_told n [] [] a b h l p q e = (refl, e)
 risks_told n [] (y ∷ ys) a b h l p q e = absurd (omega arith)

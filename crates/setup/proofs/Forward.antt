@@ -2,7 +2,7 @@
 use Rattle.std.proofs.Common.{◌≡◌, ℕ, suc, ◌+◌, ◌-◌, ◌*◌, ◌≤◌, true, false, List, [], ◌∷◌, ◌++◌, map, length, take, drop, sym, refl, ap, ◌∙◌, subst, arith, length-append, le-leb}
 use Rattle.std.proofs.lemmas.List.{append_assoc, append-nil, length_push, drop_at, take-append-drop}
 use Rattle.std.proofs.lemmas.List.Sums.{sum_by-cons}
-use Rattle.std.specs.List.{AllByRecursion as All}
+use Rattle.std.specs.List.{AllByRecursion}
 use Rattle.ballot.specs.declared.Batch.{Batch}
 use Rattle.ballot.specs.declared.Candidate.{Candidate}
 use Rattle.ballot.specs.declared.Contest.{Contest}
@@ -38,7 +38,7 @@ still_batches (b ∷ bs) = refl
 
 module _ (ls : Lists) (t : Terms) (a : ℕ) (x : Contest) (xs : List Contest) (cs : List Candidate) where
   batches_lead : (bs : List Batch) (ph : Phase) (front : List Batch) (n m : ℕ) → opened ph ≡ false → allowed ph 0x01 ≡ true →
-      n + cards_in bs ≡ m → All (λ b. 1 ≤ b.cards) bs → length front + length bs ≤ 200 → m ≤ 65535 →
+      n + cards_in bs ≡ m → AllByRecursion (λ b. 1 ≤ b.cards) bs → length front + length bs ≤ 200 → m ≤ 65535 →
       length front + length bs ≤ length ls.batches.memory →
       Leads (made ph n t a x 0) (lists_with ls front xs cs) (map batch_command bs) (made (after_batches ph bs) m t a x 0)
       (lists_with ls (front ++ bs) xs cs)
@@ -61,7 +61,7 @@ module _ (ls : Lists) (n : ℕ) (t : Terms) (a : ℕ) (x : Contest) (bs : List B
     (v : votes_fit x n own ≡ true) (w : has_winners x own ≡ true) where
   candidates_lead : (rest : List Candidate) (c : Candidate) (r : ℕ) (before held : List Candidate) →
       held ≡ front ++ before → own ≡ before ++ (c ∷ rest) → r ≡ length before → length own ≡ x.candidates →
-      All (λ y. y.votes ≤ n) (c ∷ rest) → length held + suc (length rest) ≤ length ls.candidates.memory →
+      AllByRecursion (λ y. y.votes ≤ n) (c ∷ rest) → length held + suc (length rest) ≤ length ls.candidates.memory →
       Leads (made at.Candidates n t a x r) (lists_with ls bs xs held) (map candidate_command (c ∷ rest)) (made at.Contests n t a x 0)
       (lists_with ls bs xs (held ++ (c ∷ rest)))
   candidates_lead [] c r before held e f g h all place =

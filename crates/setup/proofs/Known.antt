@@ -5,7 +5,7 @@ use Rattle.std.proofs.ByRecursion.{All-push}
 use Rattle.std.proofs.lemmas.List.Sums.{sum_by_push}
 use Rattle.std.proofs.lemmas.Bool.{false≢true}
 use Rattle.std.proofs.lemmas.Bool.Decides.{nat_tests}
-use Rattle.std.specs.List.{AllByRecursion as All}
+use Rattle.std.specs.List.{AllByRecursion}
 use Rattle.refusal.specs.declared.Refusal.{Refusal}
 use Rattle.refusal.specs.declared.Refusal.TheVariants as no
 use Rattle.ballot.specs.declared.Batch.{Batch}
@@ -50,7 +50,7 @@ pub record Begun (ls : Lists) (n : ℕ) (xs : List Contest) (cs : List Candidate
   pub before : Body ls n xs cs
   pub fits : ContestFits x
   pub more : length own < x.candidates
-  pub votes : All (λ c. c.votes ≤ n) own
+  pub votes : AllByRecursion (λ c. c.votes ≤ n) own
   pub few : length xs < 8
   pub assertions : assertions_in xs + assertion_count x ≤ 256
   pub contest_placed : length xs < length ls.contests.memory
@@ -219,7 +219,7 @@ head_more bs t ms ns = append_assoc (map batch_command bs) (terms_command t ∷ 
 -- ---- one command more
 
 module _ (ls : Lists) (q : Progress) (mid : Lists) where
-  known_batch : (bs : List Batch) (ph : Phase) (name : List ℕ) (cards : ℕ) → All (λ b. 1 ≤ b.cards) bs →
+  known_batch : (bs : List Batch) (ph : Phase) (name : List ℕ) (cards : ℕ) → AllByRecursion (λ b. 1 ≤ b.cards) bs →
       step (made ph (cards_in bs) nothing_read.terms 0 nothing_read.contest 0) (lists_with ls bs [] []) (batch name cards)
       ≡ record { answer = Ok q; lists = mid } →
       Known ls q mid (map batch_command bs ++ (batch name cards ∷ []))

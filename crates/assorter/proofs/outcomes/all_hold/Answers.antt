@@ -1,5 +1,5 @@
 use Rattle.std.proofs.Common.{true, false, List, map, get_or, Decides, sym, refl, subst, take_all}
-use Rattle.std.specs.List.{AllByRecursion as All}
+use Rattle.std.specs.List.{AllByRecursion}
 use Rattle.std.proofs.ByRecursion.{All-get_or, All-map, All-more}
 use Rattle.std.proofs.lemmas.Bool.{false≢true}
 use Rattle.ballot.specs.declared.Card.{Card}
@@ -17,7 +17,7 @@ True-of cards planned = Holds (claim_of planned.assertion) cards
 
 -- Some claim is false of the cards.
 some-false :
-    (assertions : List Planned) (cards : List Card) → (All (True-of cards) assertions → ⊥) →
+    (assertions : List Planned) (cards : List Card) → (AllByRecursion (True-of cards) assertions → ⊥) →
     Decides false (AllHold (map meant assertions) cards)
 some-false assertions cards fails = (
   λ t. absurd (false≢true t),
@@ -30,7 +30,7 @@ returns-then-not-holds c =
     let cards = c.args.cards.now in
     let item = c.planned-item.result in
     let P = True-of cards in
-    let fails : All P assertions → ⊥ = λ h.
+    let fails : AllByRecursion P assertions → ⊥ = λ h.
     let at : P (get_or assertions c.loop-planned.planned-index item) =
     All-get_or P assertions c.loop-planned.planned-index item c.loop-planned-test.true h in
     false≢true (c.if-not-holds.ensures.1 (subst P (sym c.planned-item.is) at)) in
@@ -55,7 +55,7 @@ returns c =
     let assertions = c.args.assertions.now in
     let cards = c.args.cards.now in
     let P = True-of cards in
-    let Q : List Planned → Type 0 = λ xs. All P xs in
+    let Q : List Planned → Type 0 = λ xs. AllByRecursion P xs in
     let each = subst Q (take_all _ _ c.loop-planned-test.false) c.loop-planned.invariant in
     let d : Decides true (AllHold (map meant assertions) cards) =
     (λ _. All-map (λ plan. Holds plan.claim cards) meant assertions each, λ _. refl) in
