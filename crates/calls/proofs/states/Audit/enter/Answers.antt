@@ -18,7 +18,7 @@ enter_all-requires g c =
     let left = entry_left t (length rs) σ (shown c.args.place c.args.found c.args.card.now) c.in_default.ensures in
     let total : c.args.self.now.terms.needed ≡ sum t.assertions = search rules in
     let lowest : 10 ≤ c.args.self.now.terms.risk_limit = search rules in
-    (omega (arith, total, left.0), lowest)
+    (omega (arith, total, left.0), omega (arith, lowest))
 
 pub overflow_add-self : goal.overflow_add-self
 overflow_add-self g c =
