@@ -132,10 +132,10 @@ pub record HasRoom (t : Terms) (records : ℕ) (file : List ℕ) (places : ℕ) 
 
 -- Without room nothing is read and nothing changes.
 pub record Unread {X Y : Type 0}
-    (audit : Audit) (answered : ℕ) (fault : Option Fault) (standing : Standing) (records records-after : List X)
-    (answers answers-after : List Y) : Type 0 where
+    (audit : Audit) (answered : ℕ) (fault : Option Fault) (standing : Standing) (records records_after : List X)
+    (answers answers_after : List Y) : Type 0 where
   pub none_answered : answered ≡ 0
   pub no_room : fault ≡ Some (record { refusal = NoRoom; file = Draws; offset = 0 })
   pub same_audit : standing ≡ Drawing audit
-  pub same_records : records-after ≡ records
-  pub same_answers : answers-after ≡ answers
+  pub same_records : records_after ≡ records
+  pub same_answers : answers_after ≡ answers
