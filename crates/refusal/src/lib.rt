@@ -1,8 +1,8 @@
 //! Why a call or a file is refused, and where in a file.
 #![tactic(auto)]
 
-ghost use Rattle.std.specs.Prelude.{◌≡◌, Some};
-ghost use Rattle.refusal.specs.Numbers.{fault_line, file_number, number};
+ghost use Rattle.std.specs.Prelude.{◌≡◌, ◌-◌, length, Some};
+ghost use Rattle.refusal.specs.Numbers.{fault_line, file_number, number, refusal_line};
 
 use std::fmt;
 
@@ -49,12 +49,12 @@ pub enum Refusal {
     NoSetup,
 }
 
-impl Refusal {
-    /// The number that members see.
-    pub fn number(self) -> u8
-        ensures { result ≡ number self }
-    {
-        match self {
+/// The number that members see.
+impl From<Refusal> for u8 {
+    ghost from_gives = { λ refusal n. n ≡ number refusal };
+
+    fn from(refusal: Refusal) -> u8 {
+        match refusal {
             Refusal::EndsEarly => 1,
             Refusal::OutOfOrder => 2,
             Refusal::BadBatch => 3,
@@ -78,6 +78,14 @@ impl Refusal {
     }
 }
 
+impl fmt::Display for Refusal {
+    ghost output = { λ x. Some (refusal_line x) };
+
+    fn fmt<W: fmt::Write>(&self, f: &mut fmt::Formatter<W>) -> fmt::Result {
+        write!(f, "refused {}", u8::from(*self))
+    }
+}
+
 /// The two files of an audit.
 #[derive(Clone, Copy, PartialEq, Eq, Debug)]
 pub enum File {
@@ -87,12 +95,12 @@ pub enum File {
     Draws,
 }
 
-impl File {
-    /// The number that members see.
-    pub fn number(self) -> u8
-        ensures { result ≡ file_number self }
-    {
-        match self {
+/// The number that members see.
+impl From<File> for u8 {
+    ghost from_gives = { λ file n. n ≡ file_number file };
+
+    fn from(file: File) -> u8 {
+        match file {
             File::Setup => 1,
             File::Draws => 2,
         }
@@ -108,14 +116,25 @@ pub struct Fault {
     pub offset: usize,
 }
 
+impl Fault {
+    /// A refusal of `file` where the bytes `rest` begin, the last of the file's bytes `whole`.
+    pub fn at(file: File, whole: &[u8], rest: &[u8], refusal: Refusal) -> Fault
+        ensures { result ≡ record { refusal = refusal; file = file; offset = length whole.now - length rest.now } }
+    {
+        Fault {
+            refusal,
+            file,
+            offset: whole.len().saturating_sub(rest.len()),
+        }
+    }
+}
+
 impl fmt::Display for Fault {
     ghost output = { λ x. Some (fault_line x) };
 
     fn fmt<W: fmt::Write>(&self, f: &mut fmt::Formatter<W>) -> fmt::Result {
-        let number = self.refusal.number();
-        let file = self.file.number();
-        let offset = self.offset;
-        write!(f, "refused {number} file {file} at {offset}")
+        let file = u8::from(self.file);
+        write!(f, "{} file {file} at {}", self.refusal, self.offset)
     }
 }
 
