@@ -10,6 +10,7 @@ use refusal::Refusal;
 ///
 /// Each method says over which memory the list is afterwards, which is how the owner of the memory
 /// knows what it holds once the list has ended.
+// Beside a lent `&mut` the prover covers no invariant, so `len` is bounded where it is read.
 #[derive(Drop)]
 pub struct List<'a, T> {
     slots: &'a mut [T],
@@ -36,20 +37,14 @@ impl<'a, T: Copy> List<'a, T> {
     pub fn places(&self) -> usize
         ensures { result ≡ length (held self.now).memory }
     {
-        let memory = &*self.slots;
-        memory.len()
+        self.slots.len()
     }
 
     /// The items, first to last.
     pub fn items(&self) -> &[T]
         ensures { result.now ≡ (held self.now).items }
     {
-        let n = self.len;
-        let slots = &*self.slots;
-        if n >= slots.len() {
-            return slots;
-        }
-        &slots[0..n]
+        &self.slots[..self.len()]
     }
 
     /// Adds `x` at the end, in the first free place.
@@ -61,6 +56,7 @@ impl<'a, T: Copy> List<'a, T> {
         if self.len >= self.slots.len() {
             return Err(Refusal::NoRoom);
         }
+        // By index: after a write through `get_mut` a proof knows the places' number alone.
         self.slots[self.len] = x;
         self.len += 1;
         Ok(())
@@ -70,11 +66,7 @@ impl<'a, T: Copy> List<'a, T> {
     pub fn get(&self, i: usize) -> Result<T, Refusal>
         ensures { result ≡ get_answer (held self.now) i }
     {
-        if i >= self.len || i >= self.slots.len() {
-            return Err(Refusal::PastTheEnd);
-        }
-        let slots = &*self.slots;
-        Ok(slots[i])
+        self.items().get(i).copied().ok_or(Refusal::PastTheEnd)
     }
 
     /// Puts `x` in the place of the item at the index `i`.
@@ -83,7 +75,7 @@ impl<'a, T: Copy> List<'a, T> {
         ensures holds { held self.new ≡ replaced (held self.old) i x }
         ensures lender { self.new.slots.ghost_name ≡ self.old.slots.ghost_name }
     {
-        if i >= self.slots.len() || i >= self.len {
+        if i >= self.len() {
             return Err(Refusal::PastTheEnd);
         }
         self.slots[i] = x;
