@@ -1,17 +1,10 @@
 //! One command is taken from the bytes of a file.
-ghost use Rattle.std.specs.Prelude.{◌≡◌, ◌+◌, ◌*◌, ◌<◌, length, MatchOption, slice_index};
-ghost use Rattle.format.specs.Format.{allowed, begins, draws_says, Marked, Named, next, says, setup_says, Shorter, taken, told};
+ghost use Rattle.std.specs.Prelude.{◌≡◌, ◌<◌, length, MatchOption, slice_index};
+ghost use Rattle.format.specs.Format.{allowed, Marked, Named, next, says, Shorter, taken, told};
 ghost use Rattle.format.specs.Written.{ReadsAsWritten};
 
 use crate::command::{Command, Phase};
 use refusal::Refusal;
-
-/// Two bytes as a number, the most significant first.
-fn number(hi: u8, lo: u8) -> u16
-    ensures { result ≡ 256 * hi + lo }
-{
-    u16::from(hi) * 256 + u16::from(lo)
-}
 
 /// A name and a number, and the bytes after them.
 fn named(operands: &[u8]) -> Option<(&[u8; 8], u16, &[u8])>
@@ -20,7 +13,7 @@ fn named(operands: &[u8]) -> Option<(&[u8; 8], u16, &[u8])>
     let Some((name, [hi, lo, rest @ ..])) = operands.split_first_chunk::<8>() else {
         return None;
     };
-    Some((name, number(*hi, *lo), rest))
+    Some((name, u16::from_be_bytes([*hi, *lo]), rest))
 }
 
 /// A place, what was found there and the marks, and the bytes after them.
@@ -31,189 +24,64 @@ fn marked(operands: &[u8]) -> Option<(u16, u8, &[u8; 32], &[u8])>
         return None;
     };
     let (marks, rest) = tail.split_first_chunk::<32>()?;
-    Some((number(*hi, *lo), *found, marks, rest))
-}
-
-/// The batch that the bytes begin with, and the bytes after it.
-fn batch(bytes: &[u8]) -> Option<(Command<'_>, &[u8])>
-    ensures { taken result ≡ begins 0x01 bytes.now }
-{
-    let [0x01, operands @ ..] = bytes else {
-        return None;
-    };
-    let (name, cards, rest) = named(operands)?;
-    Some((Command::Batch { name, cards }, rest))
-}
-
-/// The terms that the bytes begin with, and the bytes after them.
-fn terms(bytes: &[u8]) -> Option<(Command<'_>, &[u8])>
-    ensures { taken result ≡ begins 0x02 bytes.now }
-{
-    let [0x02, r1, r0, d1, d0, policy, w1, w0, rest @ ..] = bytes else {
-        return None;
-    };
-    let risk_limit = number(*r1, *r0);
-    let draw_limit = number(*d1, *d0);
-    let weight = number(*w1, *w0);
-    let policy = *policy;
-    Some((
-        Command::Terms {
-            risk_limit,
-            draw_limit,
-            policy,
-            weight,
-        },
-        rest,
-    ))
-}
-
-/// The contest that the bytes begin with, and the bytes after it.
-fn contest(bytes: &[u8]) -> Option<(Command<'_>, &[u8])>
-    ensures { taken result ≡ begins 0x03 bytes.now }
-{
-    let [0x03, kind, candidates, seats, p1, p0, q1, q0, rest @ ..] = bytes else {
-        return None;
-    };
-    let p = number(*p1, *p0);
-    let q = number(*q1, *q0);
-    Some((
-        Command::Contest {
-            kind: *kind,
-            candidates: *candidates,
-            seats: *seats,
-            p,
-            q,
-        },
-        rest,
-    ))
-}
-
-/// The candidate that the bytes begin with, and the bytes after it.
-fn candidate(bytes: &[u8]) -> Option<(Command<'_>, &[u8])>
-    ensures { taken result ≡ begins 0x04 bytes.now }
-{
-    let [0x04, operands @ ..] = bytes else {
-        return None;
-    };
-    let (name, votes, rest) = named(operands)?;
-    Some((Command::Candidate { name, votes }, rest))
-}
-
-/// The opening that the bytes begin with, and the bytes after it.
-fn opening(bytes: &[u8]) -> Option<(Command<'_>, &[u8])>
-    ensures { taken result ≡ begins 0x05 bytes.now }
-{
-    let [0x05, rest @ ..] = bytes else {
-        return None;
-    };
-    Some((Command::Open, rest))
-}
-
-/// The entry that the bytes begin with, and the bytes after it.
-fn entry(bytes: &[u8]) -> Option<(Command<'_>, &[u8])>
-    ensures { taken result ≡ begins 0x11 bytes.now }
-{
-    let [0x11, operands @ ..] = bytes else {
-        return None;
-    };
-    let (place, found, marks, rest) = marked(operands)?;
-    Some((
-        Command::Entry {
-            place,
-            found,
-            marks,
-        },
-        rest,
-    ))
-}
-
-/// The asking for a verdict that the bytes begin with, and the bytes after it.
-fn verdict(bytes: &[u8]) -> Option<(Command<'_>, &[u8])>
-    ensures { taken result ≡ begins 0x12 bytes.now }
-{
-    let [0x12, rest @ ..] = bytes else {
-        return None;
-    };
-    Some((Command::Verdict, rest))
-}
-
-/// The escalation that the bytes begin with, and the bytes after it.
-fn escalation(bytes: &[u8]) -> Option<(Command<'_>, &[u8])>
-    ensures { taken result ≡ begins 0x13 bytes.now }
-{
-    let [0x13, rest @ ..] = bytes else {
-        return None;
-    };
-    Some((Command::Escalate, rest))
-}
-
-/// The count of a card that the bytes begin with, and the bytes after it.
-fn count(bytes: &[u8]) -> Option<(Command<'_>, &[u8])>
-    ensures { taken result ≡ begins 0x14 bytes.now }
-{
-    let [0x14, operands @ ..] = bytes else {
-        return None;
-    };
-    let (place, found, marks, rest) = marked(operands)?;
-    Some((
-        Command::Count {
-            place,
-            found,
-            marks,
-        },
-        rest,
-    ))
-}
-
-/// The close that the bytes begin with, and the bytes after it.
-fn closing(bytes: &[u8]) -> Option<(Command<'_>, &[u8])>
-    ensures { taken result ≡ begins 0x15 bytes.now }
-{
-    let [0x15, rest @ ..] = bytes else {
-        return None;
-    };
-    Some((Command::Close, rest))
-}
-
-/// The command of the setup file that the bytes begin with, and the bytes after it.
-fn setup_command(byte: u8, bytes: &[u8]) -> Option<(Command<'_>, &[u8])>
-    requires { byte ≡ slice_index bytes.now 0 }
-    ensures { taken result ≡ setup_says byte bytes.now }
-{
-    match byte {
-        0x01 => batch(bytes),
-        0x02 => terms(bytes),
-        0x03 => contest(bytes),
-        0x04 => candidate(bytes),
-        0x05 => opening(bytes),
-        _ => None,
-    }
-}
-
-/// The command of the draws file that the bytes begin with, and the bytes after it.
-fn draws_command(byte: u8, bytes: &[u8]) -> Option<(Command<'_>, &[u8])>
-    requires { byte ≡ slice_index bytes.now 0 }
-    ensures { taken result ≡ draws_says byte bytes.now }
-{
-    match byte {
-        0x11 => entry(bytes),
-        0x12 => verdict(bytes),
-        0x13 => escalation(bytes),
-        0x14 => count(bytes),
-        0x15 => closing(bytes),
-        _ => None,
-    }
+    Some((u16::from_be_bytes([*hi, *lo]), *found, marks, rest))
 }
 
 /// The command that the bytes begin with, and the bytes after it.
-fn command(byte: u8, bytes: &[u8]) -> Option<(Command<'_>, &[u8])>
-    requires { byte ≡ slice_index bytes.now 0 }
-    ensures { taken result ≡ says byte bytes.now }
+fn command(bytes: &[u8]) -> Option<(Command<'_>, &[u8])>
+    ensures { taken result ≡ says (slice_index bytes.now 0) bytes.now }
 {
-    if byte < 0x10 {
-        setup_command(byte, bytes)
-    } else {
-        draws_command(byte, bytes)
+    match bytes {
+        [0x01, operands @ ..] => {
+            let (name, cards, rest) = named(operands)?;
+            Some((Command::Batch { name, cards }, rest))
+        }
+        [0x02, r1, r0, d1, d0, policy, w1, w0, rest @ ..] => {
+            let terms = Command::Terms {
+                risk_limit: u16::from_be_bytes([*r1, *r0]),
+                draw_limit: u16::from_be_bytes([*d1, *d0]),
+                policy: *policy,
+                weight: u16::from_be_bytes([*w1, *w0]),
+            };
+            Some((terms, rest))
+        }
+        [0x03, kind, candidates, seats, p1, p0, q1, q0, rest @ ..] => {
+            let contest = Command::Contest {
+                kind: *kind,
+                candidates: *candidates,
+                seats: *seats,
+                p: u16::from_be_bytes([*p1, *p0]),
+                q: u16::from_be_bytes([*q1, *q0]),
+            };
+            Some((contest, rest))
+        }
+        [0x04, operands @ ..] => {
+            let (name, votes, rest) = named(operands)?;
+            Some((Command::Candidate { name, votes }, rest))
+        }
+        [0x05, rest @ ..] => Some((Command::Open, rest)),
+        [0x11, operands @ ..] => {
+            let (place, found, marks, rest) = marked(operands)?;
+            let entry = Command::Entry {
+                place,
+                found,
+                marks,
+            };
+            Some((entry, rest))
+        }
+        [0x12, rest @ ..] => Some((Command::Verdict, rest)),
+        [0x13, rest @ ..] => Some((Command::Escalate, rest)),
+        [0x14, operands @ ..] => {
+            let (place, found, marks, rest) = marked(operands)?;
+            let count = Command::Count {
+                place,
+                found,
+                marks,
+            };
+            Some((count, rest))
+        }
+        [0x15, rest @ ..] => Some((Command::Close, rest)),
+        _ => None,
     }
 }
 
@@ -223,14 +91,13 @@ fn allows(phase: Phase, byte: u8) -> bool
 {
     match phase {
         Phase::Start => byte == 0x01,
-        Phase::Batches => byte == 0x01 || byte == 0x02,
+        Phase::Batches => matches!(byte, 0x01 | 0x02),
         Phase::Terms => byte == 0x03,
         Phase::Candidates => byte == 0x04,
-        Phase::Contests => byte == 0x03 || byte == 0x05,
-        Phase::Opened => false,
-        Phase::Drawing => byte == 0x11 || byte == 0x12 || byte == 0x13,
-        Phase::Counting => byte == 0x14 || byte == 0x15,
-        Phase::Closed => false,
+        Phase::Contests => matches!(byte, 0x03 | 0x05),
+        Phase::Drawing => matches!(byte, 0x11 | 0x12 | 0x13),
+        Phase::Counting => matches!(byte, 0x14 | 0x15),
+        Phase::Opened | Phase::Closed => false,
     }
 }
 
@@ -247,7 +114,7 @@ pub fn next_command(bytes: &[u8], phase: Phase) -> Result<(Command<'_>, &[u8]), 
     if !allows(phase, *byte) {
         return Err(Refusal::OutOfOrder);
     }
-    command(*byte, bytes).ok_or(Refusal::EndsEarly)
+    command(bytes).ok_or(Refusal::EndsEarly)
 }
 
 #[cfg(test)]
