@@ -2,8 +2,12 @@
 //! marks on a card.
 #![tactic(auto)]
 
+pub mod limits;
 mod operands;
 mod winners;
+
+pub use operands::assertions_of;
+pub use winners::all_votes;
 
 /// A batch of the ballot manifest.
 #[derive(Clone, Copy, PartialEq, Eq, Debug)]

@@ -1,5 +1,5 @@
 //! The operands that describe a contest in a file, and their ranges.
-ghost use Rattle.std.specs.Prelude.{◌≡◌, Decides};
+ghost use Rattle.std.specs.Prelude.{◌≡◌, sum_by, Decides};
 ghost use Rattle.ballot.specs.Contests.{assertion_count, ContestFits, contest_from, contest_in_range, ExactlyDescribed, kind_from, seats_in_range};
 
 use crate::{Contest, Kind};
@@ -66,4 +66,14 @@ impl Kind {
             }
         }
     }
+}
+
+/// How many assertions all contests make together; 128 bits hold the sum of any slice.
+pub fn assertions_of(contests: &[Contest]) -> u128
+    ensures { result ≡ sum_by assertion_count contests.now }
+{
+    contests
+        .iter()
+        .map(|contest| u128::from(contest.assertion_count()))
+        .sum()
 }

@@ -9,11 +9,9 @@ impl Contest {
     pub fn wins(&self, candidates: &[Candidate], i: usize) -> bool
         ensures { result ≡ wins self.now candidates.now i }
     {
-        if i >= candidates.len() {
-            return false;
-        }
-        let votes = candidates[i].votes;
-        enough(self.kind, self.seats, candidates, votes)
+        candidates
+            .get(i)
+            .is_some_and(|c| enough(self.kind, self.seats, candidates, c.votes))
     }
 
     /// Whether the candidates together have at most one vote for each seat and card; an approval may
@@ -34,13 +32,10 @@ impl Contest {
         ensures answer { result ≡ has_winners self.now candidates.now }
         ensures rules { WinnersByTheRules self.now candidates.now }
     {
-        let mut seated: usize = 0;
-        for i in 0..candidates.len() {
-            if self.wins(candidates, i) {
-                seated += 1;
-            }
-        }
-        seated == self.seats as usize
+        let seated = (0..candidates.len())
+            .filter(|&i| self.wins(candidates, i))
+            .count();
+        seated == usize::from(self.seats)
     }
 }
 
@@ -61,23 +56,13 @@ fn enough(kind: Kind, seats: u8, candidates: &[Candidate], votes: u16) -> bool
 fn reach(candidates: &[Candidate], votes: u16) -> usize
     ensures { result ≡ reach votes candidates.now }
 {
-    let mut n: usize = 0;
-    for c in candidates {
-        if votes <= c.votes {
-            n += 1;
-        }
-    }
-    n
+    candidates.iter().filter(|c| votes <= c.votes).count()
 }
 
 /// The votes of all candidates together; 128 bits hold the sum of any slice.
-fn all_votes(candidates: &[Candidate]) -> u128
+pub fn all_votes(candidates: &[Candidate]) -> u128
     ensures sum { result ≡ all_votes candidates.now }
     ensures bound { result ≤ 65535 * length candidates.now }
 {
-    let mut sum: u128 = 0;
-    for c in candidates {
-        sum += c.votes as u128;
-    }
-    sum
+    candidates.iter().map(|c| u128::from(c.votes)).sum()
 }
