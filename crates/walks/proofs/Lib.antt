@@ -1,3 +1,4 @@
 pub mod Fronts
 pub mod Passes
 pub mod Risks
+pub mod Tests

@@ -1,17 +1,19 @@
 -- A card that is shown to the records, and what it does to one of them.
-use Rattle.std.specs.Prelude.{ℕ, cond, ◌==◌, List, ◌++◌, map, take, drop}
+use Rattle.std.specs.Prelude.{ℕ, List, ◌++◌, map, take, drop, Some, None, Option}
 use Rattle.ballot.specs.declared.Card.{Card}
 use Rattle.betting.specs.Accounts.{Account, cut}
-use Rattle.course.specs.Terms.{Shown}
+use Rattle.course.specs.Terms.{Shown, blank_card}
 use Rattle.course.specs.Course.{Rules, after_entry}
 
--- A card, found or missing; its place moves nothing.
-abbrev pub as_found : ℕ → Card → Shown
-as_found f x = record { place = 0; found = f; card = x }
+-- A card that was found, or none where it is missing; its place moves nothing.
+abbrev pub as_found : Option Card → Shown
+as_found (Some x) = record { place = 0; found = 1; card = x }
+as_found None = record { place = 0; found = 0; card = blank_card }
 
--- What a card is worth by these values, and nothing where it is missing.
-abbrev pub seen : {A : Type 0} → (A → Card → ℕ) → ℕ → Card → A → ℕ
-seen worth f x a = cond (f == 0) 0 (worth a x)
+-- What a card is worth by these values; a missing one is worth nothing.
+abbrev pub seen : {A : Type 0} → (A → Card → ℕ) → Option Card → A → ℕ
+seen worth (Some x) a = worth a x
+seen worth None a = 0
 
 -- The first n of a list by f, the others as they are.
 abbrev pub on_front : {X : Type 0} → (X → X) → ℕ → List X → List X

@@ -1,7 +1,7 @@
 //! Walks over the records of an audit: what an entry and a count do to each, and what all of them tell.
 #![tactic(auto)]
 
-ghost use Rattle.std.specs.Prelude.{◌≡◌, ◌≤◌, map};
+ghost use Rattle.std.specs.Prelude.{◌≡◌, ◌≤◌, map, option_copied};
 ghost use Rattle.course.specs.Course.{after_count, after_entry, all_above, all_settled, rules_of, worst_risk};
 ghost use Rattle.betting.specs.Accounts.{account};
 ghost use Rattle.walks.specs.Walks.{as_found, entered, seen};
@@ -14,23 +14,15 @@ use betting::{Policy, Record, play};
 pub fn each_settled<A, P: Policy>(records: &[Record<A, P>], limit: u16) -> bool
     ensures { result ≡ all_settled limit (map (account P.state) records.now) }
 {
-    for held in records {
-        if !held.is_settled(limit) {
-            return false;
-        }
-    }
-    true
+    records.iter().all(|held| held.is_settled(limit))
 }
 
 /// What the card that is shown is worth; a missing card is worth nothing.
-fn shown_value<A: Assorter>(assorter: &A, found: u8, card: &Card) -> u16
-    ensures is { result ≡ seen A.values found card.now assorter.now }
+fn shown_value<A: Assorter>(assorter: &A, card: Option<&Card>) -> u16
+    ensures is { result ≡ seen A.values (option_copied card.entry) assorter.now }
     ensures low { result ≤ 1000 }
 {
-    if found == 0 {
-        return 0;
-    }
-    assorter.value(card)
+    card.map_or(0, |card| assorter.value(card))
 }
 
 /// Each record takes the card that is drawn. At a risk limit below 10, which no audit has, wealth
@@ -38,15 +30,13 @@ fn shown_value<A: Assorter>(assorter: &A, found: u8, card: &Card) -> u16
 pub fn enter_each<A: Assorter + Copy, P: Policy + Copy>(
     records: &mut [Record<A, P>],
     limit: u16,
-    found: u8,
-    card: &Card,
+    card: Option<&Card>,
 )
-    ensures moves { map (account P.state) records.new ≡ map (entered (rules_of A.Assorter P.Policy) limit (as_found found card.now)) (map (account P.state) records.old) }
-    ensures rules { 10 ≤ limit → map (account P.state) records.new ≡ map (after_entry (rules_of A.Assorter P.Policy) limit (as_found found card.now)) (map (account P.state) records.old) }
+    ensures moves { map (account P.state) records.new ≡ map (entered (rules_of A.Assorter P.Policy) limit (as_found (option_copied card.entry))) (map (account P.state) records.old) }
+    ensures rules { 10 ≤ limit → map (account P.state) records.new ≡ map (after_entry (rules_of A.Assorter P.Policy) limit (as_found (option_copied card.entry))) (map (account P.state) records.old) }
 {
-    for i in 0..records.len() {
-        let held = &mut records[i];
-        let value = shown_value(&held.assorter, found, card);
+    for held in records {
+        let value = shown_value(&held.assorter, card);
         let half = held.assorter.half();
         play(held, half, value, limit);
     }
@@ -55,14 +45,12 @@ pub fn enter_each<A: Assorter + Copy, P: Policy + Copy>(
 /// Each record takes the card of the hand count.
 pub fn count_each<A: Assorter + Copy, P: Policy + Copy>(
     records: &mut [Record<A, P>],
-    found: u8,
-    card: &Card,
+    card: Option<&Card>,
 )
-    ensures { map (account P.state) records.new ≡ map (after_count (rules_of A.Assorter P.Policy) (as_found found card.now)) (map (account P.state) records.old) }
+    ensures { map (account P.state) records.new ≡ map (after_count (rules_of A.Assorter P.Policy) (as_found (option_copied card.entry))) (map (account P.state) records.old) }
 {
-    for i in 0..records.len() {
-        let held = &mut records[i];
-        let value = shown_value(&held.assorter, found, card);
+    for held in records {
+        let value = shown_value(&held.assorter, card);
         held.add_to_tally(value);
     }
 }
@@ -72,21 +60,12 @@ pub fn worst_risk<A, P: Policy>(records: &[Record<A, P>]) -> u64
     ensures is { result ≡ worst_risk (map (account P.state) records.now) }
     ensures low { result ≤ 1000 }
 {
-    let mut worst = 0;
-    for held in records {
-        worst = worst.max(held.risk());
-    }
-    worst
+    records.iter().map(|held| held.risk()).max().unwrap_or(0)
 }
 
 /// Whether each assertion's tally is above a half for each of the cards.
 pub fn all_above<A: Assorter, P: Policy>(records: &[Record<A, P>], cards: u16) -> bool
     ensures { result ≡ all_above (rules_of A.Assorter P.Policy) cards (map (account P.state) records.now) }
 {
-    for held in records {
-        if held.assorter.half() as u32 * cards as u32 >= held.tally {
-            return false;
-        }
-    }
-    true
+    records.iter().all(|held| held.tally > held.assorter.half() as u32 * cards as u32)
 }

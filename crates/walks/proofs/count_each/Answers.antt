@@ -1,23 +1,19 @@
-use Rattle.std.proofs.Common.{map, get_or, ap, ◌∙◌, arith}
+use Rattle.std.proofs.Common.{map, get_or, option_copied, ap, ◌∙◌, arith}
 use lib.ListN.{length-map}
 use Rattle.betting.specs.Accounts.{account, tallied}
 use Rattle.course.specs.Course.{after_count, rules_of}
 use Rattle.walks.specs.Walks.{as_found}
-use Rattle.walks.proofs.Fronts.{front_all, front_more}
+use Rattle.walks.proofs.Fronts.{front_more}
+use Rattle.walks.proofs.Tests.{seen_worth}
 use Rattle.walks.proofs.count_each.Goals as goal
 
-pub loop-i-preserved : goal.loop-i-preserved
-loop-i-preserved g c =
+pub loop-held-preserved : goal.loop-held-preserved
+loop-held-preserved g c =
+    let R = rules_of g.A.Assorter g.P.Policy in
     let m = account {A = g.row.A.Denot} g.P.Policy.state in
-    let f = after_count (rules_of g.A.Assorter g.P.Policy) (as_found c.args.found c.args.card.now) in
-    let r = get_or c.loop-i.records c.loop-i.i c.index-records-i.result in
-    front_more m f c.loop-i.i c.loop-i.records (map m c.args.records.now) c.index-records-i.result
-    c.add_to_tally.new.self (omega arith) (omega (arith, length-map c.args.records.now m)) c.loop-i.invariant
-    (c.add_to_tally.ensures ∙ ap (λ v. tallied v (m r)) c.shown_value-value.ensures.is)
-
-pub returns : goal.returns
-returns g c =
-    let m = account {A = g.row.A.Denot} g.P.Policy.state in
-    let f = after_count (rules_of g.A.Assorter g.P.Policy) (as_found c.args.found c.args.card.now) in
-    let xs = map m c.args.records.now in
-    c.loop-i.invariant ∙ front_all f c.loop-i.i xs (omega (arith, length-map c.args.records.now m))
+    let card = option_copied c.args.card in
+    let r = get_or c.loop-held.held-items c.loop-held.held-index c.held-item.result in
+    let worth = c.shown_value-value.ensures.is ∙ seen_worth R card r.assorter in
+    front_more m (after_count R (as_found card)) c.loop-held.held-index c.loop-held.held-items (map m c.args.records.now)
+    c.held-item.result c.add_to_tally.new.self (omega arith) (omega (arith, length-map c.args.records.now m))
+    c.loop-held.invariant (c.add_to_tally.ensures ∙ ap (λ v. tallied v (m r)) worth)

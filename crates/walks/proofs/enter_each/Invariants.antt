@@ -1,13 +1,16 @@
-use Rattle.std.proofs.Common.{◌≡◌, ◌≤◌, map}
+use Rattle.std.proofs.Common.{◌≡◌, ◌≤◌, map, option_copied}
 use Rattle.betting.specs.Accounts.{account}
 use Rattle.course.specs.Course.{after_entry, rules_of}
 use Rattle.walks.specs.Walks.{as_found, entered, on_front}
 use Rattle.walks.proofs.enter_each.Given as goal
 
-abbrev pub invariant-loop-i : goal.invariant-loop-i
-invariant-loop-i g l =
+abbrev pub invariant-loop-held : goal.invariant-loop-held
+invariant-loop-held g l =
     let R = rules_of g.A.Assorter g.P.Policy in
     let m = account {A = g.row.A.Denot} g.P.Policy.state in
-    let e = as_found l.found l.card in
-    (map m l.records ≡ on_front (entered R l.limit e) l.i (map m l.initial.records))
-    × (10 ≤ l.limit → map m l.records ≡ on_front (after_entry R l.limit e) l.i (map m l.initial.records))
+    let e = as_found (option_copied l.card) in
+    let from = map m l.initial.held-items in
+    record {
+      moves : map m l.held-items ≡ on_front (entered R l.limit e) l.held-index from;
+      rules : 10 ≤ l.limit → map m l.held-items ≡ on_front (after_entry R l.limit e) l.held-index from;
+    }
