@@ -4,6 +4,7 @@
 mod policies;
 mod starts;
 
+pub use policies::first_policy;
 pub use starts::{start_records, start_with};
 
 #[cfg(test)]

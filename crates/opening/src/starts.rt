@@ -24,9 +24,8 @@ pub fn start_records(
     if records.len() < planned.len() {
         return Err(Refusal::NoRoom);
     }
-    for i in 0..planned.len() {
-        let next = planned[i];
-        records[i] = Record::start(next.assertion, first_policy(&next, policy));
+    for (i, next) in planned.iter().enumerate() {
+        records[i] = Record::start(next.assertion, first_policy(next, policy));
     }
     Ok(())
 }
@@ -47,8 +46,7 @@ pub fn start_with<A: Copy, P: Policy + Copy>(
     if records.len() < count || assorters.len() < count || policies.len() < count {
         return Err(Refusal::NoRoom);
     }
-    for i in 0..count {
-        let held = &mut records[i];
+    for (i, held) in records[..count].iter_mut().enumerate() {
         *held = Record::start(assorters[i], policies[i]);
     }
     Ok(())

@@ -6,6 +6,5 @@ use Rattle.opening.proofs.starts.start_with.Given as goal
 abbrev pub invariant-loop-i : goal.invariant-loop-i
 invariant-loop-i g l =
     let state = g.P.Policy.state in
-    (map (account state) l.records
-    ≡ take l.i (started l.assorters (map state l.policies)) ++ drop l.i (map (account state) l.initial.records))
-    × (drop l.count l.records ≡ drop l.count l.initial.records)
+    map (account state) l.held-items
+    ≡ take l.i (started l.assorters (map state l.policies)) ++ drop l.i (map (account state) l.initial.held-items)
