@@ -5,7 +5,9 @@ use Rattle.std.proofs.lemmas.List.Sums.{sum_by-append}
 use Rattle.std.proofs.lemmas.Bool.Decides.{nat_tests}
 use Rattle.verdict.specs.declared.Finding.{Finding}
 use Rattle.verdict.specs.declared.Finding.TheVariants.{Confirm, Continue, FullHandCount}
-use Rattle.report.specs.Lines.{line, line_count, outcome, risk_line, draws_line, outcome_line, finding_line}
+use Rattle.verdict.specs.declared.Verdict.{Verdict}
+use Rattle.verdict.specs.Contests.{contest_risks}
+use Rattle.report.specs.Lines.{line, line_count, numbered, outcome, risk_line, draws_line, outcome_line, finding_line, verdict_lines}
 
 pub count_append : (xs ys : List ℕ) → line_count (xs ++ ys) ≡ line_count xs + line_count ys
 count_append xs ys = sum_by-append (λ b. cond (eqb b 10) 1 0) xs ys
@@ -69,3 +71,12 @@ pub finding_line_one : (finding : Finding) → line_count (finding_line finding)
 finding_line_one Confirm = refl
 finding_line_one Continue = refl
 finding_line_one FullHandCount = refl
+
+-- A verdict has a line for each contest and two more.
+pub verdict_count : (v : Verdict) (n : ℕ) → v.draws < 2 ^ 16 → line_count (numbered risk_line 1 (contest_risks v)) ≡ n →
+    line_count (verdict_lines v) ≡ n + 2
+verdict_count v n h p =
+    let contests = numbered risk_line 1 (contest_risks v) in
+    let first = count_append contests (draws_line v.draws) in
+    count_append (contests ++ draws_line v.draws) (finding_line v.finding)
+    ∙ omega (arith, first, draws_line_one v.draws h, finding_line_one v.finding)

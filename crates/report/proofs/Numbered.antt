@@ -1,7 +1,6 @@
 -- Numbered lines, one item after the other.
-use Rattle.std.proofs.Common.{◌≡◌, ℕ, suc, ◌+◌, ◌<◌, min, List, [], ◌∷◌, ◌++◌, length, get_or, take, sym, ap, ◌∙◌, ⊎_elim, arith}
-use Rattle.std.proofs.lemmas.List.{append_assoc, append-nil, take_more, length-take-le, take_all}
-use Rattle.std.proofs.lemmas.Bool.Decides.{leb_tells}
+use Rattle.std.proofs.Common.{◌≡◌, ℕ, suc, ◌+◌, ◌<◌, List, [], ◌∷◌, ◌++◌, length, get_or, take, ap, ◌∙◌, arith}
+use Rattle.std.proofs.lemmas.List.{append_assoc, append-nil, take_more, length-take-le}
 use Rattle.report.specs.Lines.{numbered}
 
 numbered_push : {A : Type 0} (item : ℕ → A → List ℕ) (n : ℕ) (xs : List A) (x : A) →
@@ -19,11 +18,3 @@ numbered_more item xs i d was more h w e =
     let l = length-take-le i xs (omega arith) in
     let m = take_more xs i d h in
     let p = numbered_push item 1 (take i xs) (get_or xs i d) in cc
-
--- Of eight items, the first k where k is n and at most 8.
-pub take_min : {A : Type 0} (xs : List A) (n k : ℕ) → length xs ≡ 8 → k ≡ min n 8 → take k xs ≡ take n xs
-take_min xs n k h e =
-    ⊎_elim
-    (λ p. let q : k ≡ n = omega (arith, p.1) in ap (λ m. take m xs) q)
-    (λ p. take_all k xs (omega (arith, p.1)) ∙ sym (take_all n xs (omega (arith, p.1))))
-    (leb_tells n 8)

@@ -1,43 +1,99 @@
 //! The printed lines of a verdict and of a closed hand count.
 #![tactic(auto)]
 
-ghost use Rattle.std.specs.Prelude.{◌≡◌, ◌+◌, ◌≤◌, min};
-ghost use Rattle.report.specs.Lines.{closing_lines, line_count, report_answer, reported, verdict_lines};
-ghost use Rattle.report.specs.Texts.{written};
+ghost use Rattle.std.specs.Prelude.{◌≡◌, ◌+◌, ◌≤◌, length, min};
+ghost use Rattle.report.specs.Lines.{closing_lines, draws_line, finding_line, line_count, outcome_line, report_answer, reported, risk_line, verdict_lines};
 ghost use Rattle.report.specs.Told.{LinesTell};
 
+use arrayvec::ArrayString;
+use itoa::Buffer;
 use refusal::Refusal;
-use text::Text;
-use verdict::{Closing, Verdict};
+use verdict::{Closing, Finding, Verdict};
 
-mod text;
+/// "contest 1 risk 46"
+fn risk_line(contest: u8, risk: u16) -> ArrayString<23>
+    ensures { result.bytes ≡ risk_line contest risk }
+{
+    let mut line = ArrayString::new();
+    let mut digits = Buffer::new();
+    line.push_str("contest ");
+    line.push_str(digits.format(contest));
+    line.push_str(" risk ");
+    line.push_str(digits.format(risk));
+    line.push_str("\n");
+    line
+}
 
-fn verdict_text(verdict: &Verdict) -> Text
-    ensures text { written result ≡ verdict_lines verdict.now }
-    ensures len { result.len ≤ 256 }
+/// "draws 17"
+fn draws_line(draws: u16) -> ArrayString<12>
+    ensures { result.bytes ≡ draws_line draws }
+{
+    let mut line = ArrayString::new();
+    line.push_str("draws ");
+    line.push_str(Buffer::new().format(draws));
+    line.push_str("\n");
+    line
+}
+
+/// What the members are to do next, in words.
+fn finding_line(finding: Finding) -> &'static str
+    ensures text { result.now ≡ finding_line finding }
+    ensures len { length result.now ≤ 16 }
+{
+    match finding {
+        Finding::Confirm => "confirm\n",
+        Finding::Continue => "continue\n",
+        Finding::FullHandCount => "full hand count\n",
+    }
+}
+
+/// "contest 1 upheld"
+fn outcome_line(contest: u8, upheld: bool) -> ArrayString<23>
+    ensures { result.bytes ≡ outcome_line contest upheld }
+{
+    let mut line = ArrayString::new();
+    line.push_str("contest ");
+    line.push_str(Buffer::new().format(contest));
+    line.push_str(if upheld { " upheld" } else { " not upheld" });
+    line.push_str("\n");
+    line
+}
+
+fn verdict_text(verdict: &Verdict) -> ArrayString<256>
+    ensures text { result.bytes ≡ verdict_lines verdict.now }
     ensures lines { line_count (verdict_lines verdict.now) ≡ min verdict.now.contests 8 + 2 }
 {
-    let mut text = Text::empty();
-    let contests = (verdict.contests as usize).min(8);
-    for i in 0..contests {
-        text.risk_line(i as u8 + 1, verdict.risks[i]);
+    let mut text = ArrayString::new();
+    for (i, risk) in verdict.contest_risks().iter().enumerate() {
+        text.push_str(risk_line(i as u8 + 1, *risk).as_str());
     }
-    text.draws_line(verdict.draws);
-    text.finding_line(verdict.finding);
+    text.push_str(draws_line(verdict.draws).as_str());
+    text.push_str(finding_line(verdict.finding));
     text
 }
 
-fn closing_text(closing: &Closing) -> Text
-    ensures text { written result ≡ closing_lines closing.now }
-    ensures len { result.len ≤ 256 }
+fn closing_text(closing: &Closing) -> ArrayString<256>
+    ensures text { result.bytes ≡ closing_lines closing.now }
     ensures lines { line_count (closing_lines closing.now) ≡ min closing.now.contests 8 }
 {
-    let mut text = Text::empty();
-    let contests = (closing.contests as usize).min(8);
-    for i in 0..contests {
-        text.outcome_line(i as u8 + 1, closing.upheld[i]);
+    let mut text = ArrayString::new();
+    for (i, upheld) in closing.contests_upheld().iter().enumerate() {
+        text.push_str(outcome_line(i as u8 + 1, *upheld).as_str());
     }
     text
+}
+
+/// The text to the front of `out`, or nothing where it does not fit; how many bytes it has.
+fn print(text: &str, out: &mut [u8]) -> Result<usize, Refusal>
+    ensures answer { result ≡ report_answer text.now out.old }
+    ensures out { out.new ≡ reported text.now out.old }
+{
+    let len = text.len();
+    if len > out.len() {
+        return Err(Refusal::ReportTooLong);
+    }
+    out[..len].copy_from_slice(text.as_bytes());
+    Ok(len)
 }
 
 /// The lines of a verdict to the front of `out`, or nothing where they do not fit; how many bytes
@@ -48,7 +104,7 @@ pub fn report_verdict(verdict: &Verdict, out: &mut [u8]) -> Result<usize, Refusa
     ensures lines { line_count (verdict_lines verdict.now) ≡ min verdict.now.contests 8 + 2 }
     ensures tells { LinesTell verdict.now }
 {
-    verdict_text(verdict).print(out)
+    print(verdict_text(verdict).as_str(), out)
 }
 
 /// The lines of a closed hand count to the front of `out`, or nothing where they do not fit; how
@@ -58,13 +114,12 @@ pub fn report_closing(closing: &Closing, out: &mut [u8]) -> Result<usize, Refusa
     ensures out { out.new ≡ reported (closing_lines closing.now) out.old }
     ensures lines { line_count (closing_lines closing.now) ≡ min closing.now.contests 8 }
 {
-    closing_text(closing).print(out)
+    print(closing_text(closing).as_str(), out)
 }
 
 #[cfg(test)]
 mod tests {
     use super::*;
-    use verdict::Finding;
 
     #[test]
     fn one_contest_confirmed(rt: HostRuntime) {

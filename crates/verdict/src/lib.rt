@@ -1,6 +1,8 @@
 //! What an audit answers.
 #![tactic(auto)]
 
+ghost use Rattle.std.specs.Prelude.{◌≡◌, length, min};
+
 /// What the members are to do next.
 #[derive(Clone, Copy, PartialEq, Eq, Debug)]
 pub enum Finding {
@@ -13,6 +15,7 @@ pub enum Finding {
 }
 
 /// The state of an audit after some draws.
+// A plain array, since an answer is copied into the caller's memory, and an `ArrayVec` is not `Copy`.
 #[derive(Clone, Copy, PartialEq, Eq, Debug)]
 pub struct Verdict {
     pub finding: Finding,
@@ -23,11 +26,38 @@ pub struct Verdict {
     pub risks: [u16; 8],
 }
 
+impl Verdict {
+    ghost use Rattle.verdict.specs.Contests.{contest_risks};
+
+    /// The risk of each contest, first to last. Contests above 8 count as 8.
+    pub fn contest_risks(&self) -> &[u16]
+        ensures contests { result.now ≡ contest_risks self.now }
+        ensures count { length result.now ≡ min self.now.contests 8 }
+    {
+        let contests = usize::from(self.contests).min(self.risks.len());
+        &self.risks[..contests]
+    }
+}
+
 /// What a full hand count found.
+// A plain array, as in a verdict.
 #[derive(Clone, Copy, PartialEq, Eq, Debug)]
 pub struct Closing {
     /// How many contests there are; the places of `upheld` beyond them say nothing.
     pub contests: u8,
     /// Does the count give the reported winners? The first contest's answer is in place 0.
     pub upheld: [bool; 8],
+}
+
+impl Closing {
+    ghost use Rattle.verdict.specs.Contests.{contests_upheld};
+
+    /// Whether the count upholds each contest, first to last. Contests above 8 count as 8.
+    pub fn contests_upheld(&self) -> &[bool]
+        ensures contests { result.now ≡ contests_upheld self.now }
+        ensures count { length result.now ≡ min self.now.contests 8 }
+    {
+        let contests = usize::from(self.contests).min(self.upheld.len());
+        &self.upheld[..contests]
+    }
 }
