@@ -1,8 +1,9 @@
 -- Stake, payoff, risk and settlement as a pencil has them, and how far a wealth can grow.
-use Rattle.std.proofs.Common.{◌≡◌, ℕ, ◌+◌, ◌-◌, ◌*◌, ◌/◌, ◌%◌, ◌^◌, ◌<◌, ◌≤◌, min, max, ◌↔◌, Decides, sym, ap, ◌∙◌, ⊎_elim, mul_comm, div-lt_iff_lt-mul, add-mul, mul-le-mul_left, one-mul, div-add-mod', zero-mul, div-le_self, arith}
+use Rattle.std.proofs.Common.{◌≡◌, ℕ, ◌+◌, ◌-◌, ◌*◌, ◌/◌, ◌%◌, ◌^◌, ◌<◌, ◌≤◌, min, max, ◌↔◌, Decides, sym, ap, ◌∙◌, ⊎_elim, mul_comm, div-lt_iff_lt-mul, add-mul, mul-le-mul_left, one-mul, div-le_self, arith}
 use native.Mathlib.Nat.{div-eq_of_lt-le, div-zero, mul-div-le}
-use Rattle.std.proofs.lemmas.Nat.{le-div, mod_below}
-use Rattle.std.proofs.lemmas.Bool.{cases_eq, cases_lt, le-leb, leb-true}
+use Rattle.std.proofs.lemmas.Nat.{le-div}
+use Rattle.std.proofs.lemmas.Grind.{div_ceil_times}
+use Rattle.std.proofs.lemmas.Bool.{cases_lt, le-leb, leb-true}
 use Rattle.betting.specs.Sums.{ModestGrowth, payoff_of, PayoffByPencil, risk_of, RiskByPencil, rounded_up, settled, stake_of, wealth_after}
 
 pub payoff_pencil : (stake half value : ℕ) → PayoffByPencil stake half value (payoff_of stake half value)
@@ -28,12 +29,9 @@ growth_of wealth bet half value r e hb hv = omega (arith, growth wealth bet half
 -- the quotient rounded up, as the code has it
 pub rounded : (n d : ℕ) → 0 < d → n / d + min 1 (n % d) ≡ rounded_up n d
 rounded n d h =
-    let whole = div-add-mod' n d in
-    let rest = mod_below n d h in
-    ⊎_elim
-    (λ none. let t : min 1 (n % d) ≡ 0 = omega arith in rw t (sym (div-eq_of_lt-le {k = n / d + 0} d (omega (arith, add-mul (n / d) 0 d, zero-mul d)) (omega (arith, add-mul (n / d) 0 d, zero-mul d, add-mul (n / d + 0) 1 d, one-mul d)))))
-    (λ some. let t : min 1 (n % d) ≡ 1 = omega arith in rw t (sym (div-eq_of_lt-le {k = n / d + 1} d (omega (arith, add-mul (n / d) 1 d, one-mul d)) (omega (arith, add-mul (n / d) 1 d, add-mul (n / d + 1) 1 d, one-mul d)))))
-    (cases_eq (n % d) 0)
+    let up = n / d + min 1 (n % d) in
+    let both = div_ceil_times n d h in
+    sym (div-eq_of_lt-le {k = up} d (omega (arith, both.1)) (omega (arith, both.0, add-mul up 1 d, one-mul d)))
 
 pub rounded_le : (n d p : ℕ) → 0 < d → (rounded_up n d ≤ p) ↔ (n ≤ p * d)
 rounded_le n d p h =

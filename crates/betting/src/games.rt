@@ -55,6 +55,7 @@ impl<A, P: Policy> Record<A, P> {
 /// Plays a card's value on an assertion that isn't settled at the risk limit: asks the policy
 /// for its bet, moves wealth and peak, then tells the policy the value. A settled record stays as
 /// it is.
+#[tactic(auto, using(crate::proofs::Cuts::cut_played, crate::proofs::Cuts::played_low, crate::proofs::Cuts::uncut))]
 pub fn play<A: Copy, P: Policy + Copy>(
     held: &mut Record<A, P>,
     half: u16,
@@ -67,6 +68,7 @@ pub fn play<A: Copy, P: Policy + Copy>(
     if held.is_settled(risk_limit) {
         return;
     }
+    // By a rule of the project a record is read field by field, and written back whole.
     let assorter = held.assorter;
     let mut policy = held.policy;
     let tally = held.tally;

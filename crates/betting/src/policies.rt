@@ -34,14 +34,15 @@ impl Policy for Fixed {
 
 impl Shrinking {
     /// A policy that was told nothing yet, where first bet, weight, half and top are in their ranges.
+    // The four come together only in this call; what holds them from then on is the policy itself.
+    #[tactic(auto, using(crate::proofs::Runs::runs))]
     pub fn new(first: u16, weight: u16, half: u16, top: u16) -> Option<Shrinking>
         ensures is { in_state result ≡ begun first weight half top }
         ensures runs { RunsByTheRule first weight half top }
     {
-        if first > 1000 || weight < 1 || weight > 1000 {
-            return None;
-        }
-        if half < 1 || half >= top || top > 1000 {
+        let begins = first <= 1000 && (1..=1000).contains(&weight);
+        let spread = (1..top).contains(&half) && top <= 1000;
+        if !begins || !spread {
             return None;
         }
         Some(Shrinking {
@@ -105,15 +106,9 @@ impl Policy for ChosenPolicy {
     }
 
     fn tell(&mut self, value: u16) {
-        match *self {
-            ChosenPolicy::Fixed(mut policy) => {
-                policy.tell(value);
-                *self = ChosenPolicy::Fixed(policy);
-            }
-            ChosenPolicy::Shrinking(mut policy) => {
-                policy.tell(value);
-                *self = ChosenPolicy::Shrinking(policy);
-            }
+        match self {
+            ChosenPolicy::Fixed(policy) => policy.tell(value),
+            ChosenPolicy::Shrinking(policy) => policy.tell(value),
         }
     }
 }

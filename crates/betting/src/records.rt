@@ -13,7 +13,7 @@ pub struct Record<A, P> {
     ghost ranges: { (wealth ≤ peak) × (1000000000 ≤ peak) × (peak ≤ 100000000000000) × (tally ≤ 65535000) },
 }
 
-// A struct with type parameters and an invariant derives no `Clone`, which `Copy` asks for.
+// By hand: `Clone` cannot be derived for a struct with a ghost field, if it has type parameters.
 impl<A: Copy, P: Copy> Clone for Record<A, P> {
     ghost use Rattle.std.specs.Prelude.{◌≡◌, ⊤};
 

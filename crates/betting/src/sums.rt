@@ -15,6 +15,7 @@ pub fn stake(wealth: u64, bet: u16) -> u128
 }
 
 /// What a stake brings on a card of this value; a half of 0, which no assorter has, brings nothing.
+// A value stands beside a half only in sums: policies and tallies take the value alone.
 pub fn payoff(stake: u64, half: u16, value: u16) -> u128
     ensures is { result ≡ payoff_of stake half value }
     ensures pencil { PayoffByPencil stake half value result }
@@ -23,6 +24,7 @@ pub fn payoff(stake: u64, half: u16, value: u16) -> u128
 }
 
 /// The same of a stake that a bet above 1,000 thousandths would make, which no policy does.
+#[tactic(auto, using(crate::proofs::Pencil::payoff_le, crate::proofs::Pencil::payoff_pencil))]
 fn wide_payoff(stake: u128, half: u16, value: u16) -> u128
     requires { stake < 2 ^ 80 }
     ensures is { result ≡ payoff_of stake half value }
@@ -36,6 +38,7 @@ fn wide_payoff(stake: u128, half: u16, value: u16) -> u128
 }
 
 /// The wealth after a bet on a card of this value.
+#[tactic(auto, using(crate::proofs::Pencil::growth_of, crate::proofs::Pencil::payoff_pencil))]
 pub fn wealth_after(wealth: u64, bet: u16, half: u16, value: u16) -> u128
     ensures is { result ≡ wealth_after wealth bet half value }
     ensures pays { PayoffByPencil (stake_of wealth bet) half value (payoff_of (stake_of wealth bet) half value) }
@@ -53,6 +56,7 @@ pub fn peak_after(peak: u64, wealth: u64) -> u64
 }
 
 /// Whether an assertion with this peak needs no more draws at the risk limit, in thousandths.
+#[tactic(auto, using(crate::proofs::Pencil::settled_pencil))]
 pub fn is_settled(peak: u64, risk_limit: u16) -> bool
     ensures is { result ≡ settled peak risk_limit }
     ensures pencil { Decides result (risk_of peak ≤ risk_limit) }
