@@ -23,9 +23,6 @@ growth wealth bet half value hb hv =
     let s = stake_of wealth bet in
     omega (arith, stake_le wealth bet hb, payoff_le s half value, mul-le-mul_left s hv)
 
-pub growth_of : (wealth bet half value r : ℕ) → r ≡ wealth_after wealth bet half value → ModestGrowth wealth bet value r
-growth_of wealth bet half value r e hb hv = omega (arith, growth wealth bet half value hb hv)
-
 -- the quotient rounded up, as the code has it
 pub rounded : (n d : ℕ) → 0 < d → n / d + min 1 (n % d) ≡ rounded_up n d
 rounded n d h =

@@ -9,9 +9,6 @@ use Rattle.betting.specs.Shrinks.{at_least_0}
 pub base_le : (w f s : ℕ) → w ≤ 1000 → f ≤ 1000 → s ≤ 1000 → w * f * s ≤ 1000000000
 base_le w f s hw hf hs = omega (arith, mul-le (w * f) s 1000000 1000 (omega (arith, mul-le w f 1000 1000 hw hf)) hs)
 
-pub divisor_pos : (s n : ℕ) → 1 ≤ s → 1 ≤ n → 1 ≤ s * n
-divisor_pos s n hs hn = omega (arith, mul-le 1 1 s n hs hn)
-
 below_0 : (z : ℤ) → lt_z z (pos 0) ≡ true → at_least_0 z ≡ 0
 below_0 (pos n) h = grind (arith, ints)
 below_0 (negsuc n) h = refl

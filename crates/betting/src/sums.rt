@@ -38,7 +38,7 @@ fn wide_payoff(stake: u128, half: u16, value: u16) -> u128
 }
 
 /// The wealth after a bet on a card of this value.
-#[tactic(auto, using(crate::proofs::Pencil::growth_of, crate::proofs::Pencil::payoff_pencil))]
+#[tactic(auto, using(crate::proofs::Pencil::growth, crate::proofs::Pencil::payoff_pencil))]
 pub fn wealth_after(wealth: u64, bet: u16, half: u16, value: u16) -> u128
     ensures is { result ≡ wealth_after wealth bet half value }
     ensures pays { PayoffByPencil (stake_of wealth bet) half value (payoff_of (stake_of wealth bet) half value) }

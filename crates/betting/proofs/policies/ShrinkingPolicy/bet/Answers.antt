@@ -1,7 +1,8 @@
 use Rattle.std.proofs.Common.{◌+◌, ◌-◌, ◌*◌, ◌≤◌, arith}
+use Rattle.std.proofs.Math.Nat.{mul-pos}
 use Rattle.std.proofs.lemmas.Int.{ints}
 use Rattle.betting.specs.declared.shrinking.Shrinking.{Shrinking}
-use Rattle.betting.proofs.Quotients.{base_le, divisor_pos, low_bet, high_bet}
+use Rattle.betting.proofs.Quotients.{base_le, low_bet, high_bet}
 use Rattle.betting.proofs.policies.ShrinkingPolicy.bet.Goals as goal
 
 small : (s : Shrinking) → s.weight * s.first * (s.top - s.half) ≤ 1000000000
@@ -20,9 +21,7 @@ returns-then-dividend-lt0 c =
     s.bounds.0 s.bounds.1 s.bounds.2 c.if-dividend-lt0.true
 
 pub nonzero_div-dividend : goal.nonzero_div-dividend
-nonzero_div-dividend c =
-    let s = c.args.self.now in
-    divisor_pos (s.top - s.half) (s.weight + s.counted) (omega arith) (omega arith)
+nonzero_div-dividend c = mul-pos (omega arith) (omega arith)
 
 pub returns : goal.returns
 returns c =
