@@ -71,11 +71,9 @@ impl Policy for Shrinking {
         let spread = (self.top - self.half) as u64;
         let base = self.weight as u64 * self.first as u64 * spread;
         let dividend = base as i64 + 1000 * self.excess as i64;
-        if dividend < 0 {
-            return 0;
-        }
         let divisor = spread * (self.weight as u64 + self.counted as u64);
-        (dividend as u64 / divisor).min(MOST) as u16
+        let bet = u64::try_from(dividend).unwrap_or(0) / divisor;
+        bet.min(MOST) as u16
     }
 
     fn tell(&mut self, value: u16) {
