@@ -1,16 +1,11 @@
 -- The contests' parts of the accounts, and one account among them by its index.
-use Rattle.std.proofs.Common.{◌≡◌, ℕ, zero, suc, ◌+◌, ◌-◌, ◌*◌, ◌<◌, ◌≤◌, true, false, List, [], ◌∷◌, map, length, get_or, take, drop, sym, refl, ap, ◌∙◌, subst, ⊎_elim, le_trans, arith, length-drop, get_or-drop}
+use Rattle.std.proofs.Common.{◌≡◌, ℕ, zero, suc, ◌+◌, ◌-◌, ◌*◌, ◌<◌, ◌≤◌, true, false, List, [], ◌∷◌, map, length, get_or, take, drop, sym, ap, ◌∙◌, subst, ⊎_elim, le_trans, arith, length-drop, get_or-drop}
 use native.Mathlib.Nat.{le-max_left, le-max_right}
 use Rattle.std.proofs.lemmas.Bool.{and_parts, leb-true, ltb-true}
 use Rattle.betting.specs.Accounts.{Account}
 use Rattle.betting.specs.Sums.{risk_of}
 use Rattle.course.specs.Course.{Rules, all_above, all_settled, parts, worst_risk}
 use Rattle.course.specs.Bounds.{Any}
-
-pub get_d_map : {X : Type 0} (f : X → X) (xs : List X) (n : ℕ) (d : X) → n < length xs → get_or (map f xs) n d ≡ f (get_or xs n d)
-get_d_map f [] n d h = absurd (omega arith)
-get_d_map f (x ∷ xs) zero d h = refl
-get_d_map f (x ∷ xs) (suc n) d h = get_d_map f xs n d (omega arith)
 
 -- the assertion with index j is contest k's
 abbrev pub InPart : List ℕ → ℕ → ℕ → Type 0

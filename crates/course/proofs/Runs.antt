@@ -2,6 +2,7 @@
 use Rattle.std.proofs.Common.{◌≡◌, ℕ, zero, suc, ◌+◌, ◌^◌, ◌<◌, ◌≤◌, Bool, true, false, cond, ◌&&◌, eqb, List, [], ◌∷◌, map, length, get_or, take, drop, Decides, sum, sym, refl, ap, ◌∙◌, subst, arith, length-drop}
 use lib.ListN.{length-map}
 use Rattle.std.specs.List.{AllByRecursion}
+use Rattle.std.proofs.lemmas.List.{get_or-map}
 use Rattle.std.proofs.lemmas.List.Sums.{sum_by-cons}
 use Rattle.std.proofs.lemmas.Bool.{and_from, and_parts, cond-true}
 use Rattle.betting.specs.Accounts.{Account, moved}
@@ -13,7 +14,6 @@ use Rattle.course.specs.Course.{Rules, State, Call, after_count, after_entry, al
 use Rattle.course.specs.Course.Call.{entry, verdict, escalation, hand_count, closing}
 use Rattle.course.specs.Laws.{ConfirmsByRisk, CountsDraws, SettledStays, SameGame, left_by, taken_entries, taken_entry}
 use Rattle.course.proofs.Steps.{by_step}
-use Rattle.course.proofs.Parts.{get_d_map}
 
 and_assoc : (a b c d : Bool) → b ≡ (c && d) → (a && b) ≡ ((a && c) && d)
 and_assoc true b c d e = e
@@ -120,13 +120,13 @@ module _ {A S : Type 0} (R : Rules A S) where
     settled_step : (σ : State A S) (c : Call) → j < length σ.accounts → settled (at σ).peak t.limit ≡ true → SameGame (at (step R t σ c).0) (at σ)
     settled_step σ (entry e) h s =
         by_step R t (λ y. SameGame (at y.0) (at σ)) σ (entry e)
-        (λ _. same_as _ _ (get_d_map (after_entry R t.limit e) σ.accounts j x h ∙ cond-true (settled (at σ).peak t.limit) (at σ) (moved R.bet R.told (R.half (at σ).assorter) (shown_value R (at σ).assorter e) (at σ)) s))
+        (λ _. same_as _ _ (get_or-map (after_entry R t.limit e) σ.accounts j x x h ∙ cond-true (settled (at σ).peak t.limit) (at σ) (moved R.bet R.told (R.half (at σ).assorter) (shown_value R (at σ).assorter e) (at σ)) s))
         (λ r. same_as _ _ refl)
     settled_step σ verdict h s = same_as _ _ refl
     settled_step σ escalation h s = same_as _ _ refl
     settled_step σ (hand_count e) h s =
         by_step R t (λ y. SameGame (at y.0) (at σ)) σ (hand_count e)
-        (λ _. same_then _ (after_count R e (at σ)) _ (same_as _ _ (get_d_map (after_count R e) σ.accounts j x h)) (record { same_assorter = refl; same_state = refl; same_wealth = refl; same_peak = refl }))
+        (λ _. same_then _ (after_count R e (at σ)) _ (same_as _ _ (get_or-map (after_count R e) σ.accounts j x x h)) (record { same_assorter = refl; same_state = refl; same_wealth = refl; same_peak = refl }))
         (λ r. same_as _ _ refl)
     settled_step σ closing h s = by_step R t (λ y. SameGame (at y.0) (at σ)) σ closing (λ _. same_as _ _ refl) (λ r. same_as _ _ refl)
 

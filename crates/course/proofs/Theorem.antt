@@ -5,6 +5,7 @@ use Rattle.std.proofs.Math.ListN
 use lib.ListN.{length-map}
 use Rattle.std.specs.List.{AllByRecursion}
 use Rattle.std.proofs.ByRecursion.{All-get_or}
+use Rattle.std.proofs.lemmas.List.{get_or-map}
 use Rattle.std.proofs.lemmas.List.Sums.{sum_by_more}
 use Rattle.std.proofs.lemmas.Bool.{cases_lt}
 use Rattle.refusal.specs.declared.Refusal.{Refusal}
@@ -27,7 +28,7 @@ use Rattle.course.specs.Laws.{NeverUpholdsWrongly, UpholdsTruly}
 use Rattle.course.proofs.Steps.{by_step, closed_all, counted_place, drawn_shown, misread_count, misread_entry, some_not_none, taken_step}
 use Rattle.course.proofs.Deciding.{all_or_any, claim_or_not}
 use Rattle.course.proofs.Fairness.{cards_sum, entry_assorter, entry_fair, entry_highest, entry_rises, entry_tally, sum_const, sum_places_le}
-use Rattle.course.proofs.Parts.{get_d_map, InPart, part_above, part_any, part_worst, settled_at}
+use Rattle.course.proofs.Parts.{InPart, part_above, part_any, part_worst, settled_at}
 
 module _ {A S : Type 0} (R : Rules A S) (t : Terms) (b : Ballot) where
   abbrev After : Type 0
@@ -98,7 +99,7 @@ module _ {A S : Type 0} (R : Rules A S) (t : Terms) (b : Ballot) where
 
     entered_kept : (σ : State A S) (e : Shown) → Kept σ → Kept (answered R t σ (entry e)).0
     entered_kept σ e k =
-        let is : get_or (map (after_entry R t.limit e) σ.accounts) j x₀ ≡ after_entry R t.limit e (at σ) = get_d_map (after_entry R t.limit e) σ.accounts j x₀ k.inside in
+        let is : get_or (map (after_entry R t.limit e) σ.accounts) j x₀ ≡ after_entry R t.limit e (at σ) = get_or-map (after_entry R t.limit e) σ.accounts j x₀ x₀ k.inside in
         record {
           inside = subst (λ n. j < n) (sym (length-map σ.accounts (after_entry R t.limit e))) k.inside;
           same = ap (λ (x : Account A S). x.assorter) is ∙ entry_assorter R t.limit e (at σ) ∙ k.same;
@@ -116,7 +117,7 @@ module _ {A S : Type 0} (R : Rules A S) (t : Terms) (b : Ballot) where
         yes_case : refusal_of t σ (hand_count e) ≡ None → Kept (answered R t σ (hand_count e)).0
         yes_case ok =
             let next = counted_place R t σ e ok in
-            let is : get_or (map (after_count R e) σ.accounts) j x₀ ≡ after_count R e (at σ) = get_d_map (after_count R e) σ.accounts j x₀ k.inside in
+            let is : get_or (map (after_count R e) σ.accounts) j x₀ ≡ after_count R e (at σ) = get_or-map (after_count R e) σ.accounts j x₀ x₀ k.inside in
             let idx : e.place - 1 ≡ σ.counted = omega (arith, next.0) in
             let v : shown_value R a e ≤ R.value a (get_or b.cards σ.counted blank_card) = subst (λ n. shown_value R a e ≤ R.value a (get_or b.cards n blank_card)) idx (honest ok) in
             let vs : shown_value R (at σ).assorter e ≤ R.value a (get_or b.cards σ.counted blank_card) = subst (λ x. shown_value R x e ≤ R.value a (get_or b.cards σ.counted blank_card)) (sym k.same) v in
@@ -142,7 +143,7 @@ module _ {A S : Type 0} (R : Rules A S) (t : Terms) (b : Ballot) where
     peak x = (at x.0).peak
 
     entered_at : (σ : State A S) (e : Shown) → Kept σ → at (answered R t σ (entry e)).0 ≡ after_entry R t.limit e (at σ)
-    entered_at σ e k = get_d_map (after_entry R t.limit e) σ.accounts j x₀ k.inside
+    entered_at σ e k = get_or-map (after_entry R t.limit e) σ.accounts j x₀ x₀ k.inside
 
     drawn_fair : (σ : State A S) → Kept σ → sum_by (λ i. wealth (step R t σ (entry (show_drawn b i)))) (places t.cards) ≤ t.cards * (at σ).wealth
     drawn_fair σ k = go (no_draws_left t σ) refl
@@ -162,7 +163,7 @@ module _ {A S : Type 0} (R : Rules A S) (t : Terms) (b : Ballot) where
 
     count_same : (σ : State A S) (e : Shown) → Kept σ → (wealth (step R t σ (hand_count e)) ≡ (at σ).wealth) × (peak (step R t σ (hand_count e)) ≡ (at σ).peak)
     count_same σ e k =
-        let is : get_or (map (after_count R e) σ.accounts) j x₀ ≡ after_count R e (at σ) = get_d_map (after_count R e) σ.accounts j x₀ k.inside in
+        let is : get_or (map (after_count R e) σ.accounts) j x₀ ≡ after_count R e (at σ) = get_or-map (after_count R e) σ.accounts j x₀ x₀ k.inside in
         by_step R t (λ x. (wealth x ≡ (at σ).wealth) × (peak x ≡ (at σ).peak)) σ (hand_count e) (λ _. (ap (λ (x : Account A S). x.wealth) is, ap (λ (x : Account A S). x.peak) is)) (λ r. (refl, refl))
 
     -- counts and closings keep wealth and peak

@@ -1,4 +1,3 @@
 pub mod Fronts
-pub mod Passes
 pub mod Risks
 pub mod Tests
