@@ -17,7 +17,7 @@ pub struct Batch {
 }
 
 /// A candidate of a contest, with the votes that were reported.
-#[derive(Clone, Copy, PartialEq, Eq, Debug)]
+#[derive(Clone, Copy, PartialEq, Eq, Debug, Default)]
 pub struct Candidate {
     pub name: [u8; 8],
     pub votes: u16,

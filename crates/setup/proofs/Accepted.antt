@@ -6,7 +6,7 @@ use Rattle.format.specs.Format.{Cmd, width}
 use Rattle.format.proofs.Writing.{written_width}
 use Rattle.setup.specs.declared.setup.Setup.{Setup}
 use Rattle.setup.specs.Described.{Described, WithinLimits, WrittenBefore, WrittenForm}
-use Rattle.setup.specs.Reading.{Lists, Outcome, emptied_where_refused, following, nothing_read, opened, reading, refused, refused_fault, setup_of, without_items}
+use Rattle.setup.specs.Reading.{HeldLists, Outcome, emptied_where_refused, following, nothing_read, opened, reading, refused, refused_fault, setup_of, without_items}
 use Rattle.setup.specs.Accepted.{HasPlaces, ReadsSetups, RefusedAfter, accepted}
 use Rattle.setup.proofs.Added.{lists_along}
 use Rattle.setup.proofs.Forward.{written_is_read}
@@ -20,7 +20,7 @@ rest_shorter (m ∷ ms) bs rest w =
     let one = written_width m bs w.0 w.1 in
     omega (arith, rest_shorter ms w.0 rest w.2, one.0, ap length one.1, length-drop (width m) bs)
 
-module _ (ls : Lists) (file : List ℕ) where
+module _ (ls : HeldLists) (file : List ℕ) where
   traced : Traced (length file) (following (without_items ls) file) nothing_read (without_items ls) file
   unfolding following
   traced = trace (suc (length file)) (length file) nothing_read (without_items ls) file (omega arith)
@@ -78,3 +78,7 @@ module _ (ls : Lists) (file : List ℕ) where
         read_is_written = λ s a. read_by s a traced traced.ends;
         refused_after = λ f a. refused_by f a traced traced.ends;
       }
+
+  -- The same of whatever is what the reading comes to.
+  pub reads_alike : (o : Outcome) → o ≡ reading ls file → ReadsSetups ls file o
+  reads_alike o e = subst (ReadsSetups ls file) (sym e) reads_setups

@@ -13,7 +13,7 @@ use Rattle.ballot.specs.declared.Contest.{Contest}
 use Rattle.ballot.specs.Contests.{contest_from}
 use Rattle.format.specs.Format.{Cmd, batch, terms, contest, candidate, opens, entry, verdict, escalate, count, close}
 use Rattle.setup.specs.declared.progress.Progress.{Progress}
-use Rattle.setup.specs.Reading.{Lists, Stepped, admits, batch_objection, candidate_objection, contest_objection, after_batch, after_contest, after_candidate, step, step_contest, with_item}
+use Rattle.setup.specs.Reading.{HeldLists, Stepped, admits, batch_objection, candidate_objection, contest_objection, after_batch, after_contest, after_candidate, step, step_contest, with_item}
 use Rattle.setup.specs.Accepted.{adds, lists_after, lists_with}
 use Rattle.setup.proofs.Leads.{Leads, here, then}
 
@@ -50,11 +50,11 @@ item_added o xs memory p q x a =
 
 -- ---- what a step added
 
-nothing_added : (ls : Lists) (bs : List Batch) (xs : List Contest) (cs : List Candidate) →
+nothing_added : (ls : HeldLists) (bs : List Batch) (xs : List Contest) (cs : List Candidate) →
     lists_with ls bs xs cs ≡ lists_with ls (bs ++ []) (xs ++ []) (cs ++ [])
 nothing_added ls bs xs cs = simp append-nil
 
-added_contest : (ls : Lists) (bs : List Batch) (xs : List Contest) (cs : List Candidate) (p q : Progress) (o : Option Contest) →
+added_contest : (ls : HeldLists) (bs : List Batch) (xs : List Contest) (cs : List Candidate) (p q : Progress) (o : Option Contest) →
     (step_contest p (lists_with ls bs xs cs) o).answer ≡ Ok q →
     (step_contest p (lists_with ls bs xs cs) o).lists ≡ lists_with ls (bs ++ []) (xs ++ option_to_list o) (cs ++ [])
 added_contest ls bs xs cs p q (Some x) a =
@@ -64,7 +64,7 @@ added_contest ls bs xs cs p q (Some x) a =
     (ap (λ (z : Held Contest). record { batches = filled bs ls.batches.memory; contests = z; candidates = filled cs ls.candidates.memory }) g)
 added_contest ls bs xs cs p q None a = no_answer a
 
-added : (ls : Lists) (bs : List Batch) (xs : List Contest) (cs : List Candidate) (p q : Progress) (m : Cmd) →
+added : (ls : HeldLists) (bs : List Batch) (xs : List Contest) (cs : List Candidate) (p q : Progress) (m : Cmd) →
     (step p (lists_with ls bs xs cs) m).answer ≡ Ok q →
     (step p (lists_with ls bs xs cs) m).lists ≡ lists_with ls (bs ++ (adds m).batches) (xs ++ (adds m).contests) (cs ++ (adds m).candidates)
 added ls bs xs cs p q (batch name cards) a =
@@ -91,7 +91,7 @@ added ls bs xs cs p q close a = no_answer a
 joined_push : {X A : Type 0} (f : X → List A) (xs : List X) (x : X) → flat_map f xs ++ f x ≡ flat_map f (xs ++ x ∷ [])
 joined_push f xs x = flat_map_more f [] xs x
 
-after_one : (ls : Lists) (front : List Cmd) (m : Cmd) →
+after_one : (ls : HeldLists) (front : List Cmd) (m : Cmd) →
     lists_with ls (flat_map (λ k. (adds k).batches) front ++ (adds m).batches) (flat_map (λ k. (adds k).contests) front ++ (adds m).contests)
     (flat_map (λ k. (adds k).candidates) front ++ (adds m).candidates) ≡ lists_after ls (front ++ m ∷ [])
 after_one ls front m =
@@ -101,14 +101,14 @@ after_one ls front m =
     cc
 
 -- Commands that were followed, after those in front.
-pub lists_along : (ls : Lists) (front ms : List Cmd) (p q : Progress) (start mid : Lists) → start ≡ lists_after ls front → Leads p start ms q mid →
+pub lists_along : (ls : HeldLists) (front ms : List Cmd) (p q : Progress) (start mid : HeldLists) → start ≡ lists_after ls front → Leads p start ms q mid →
     mid ≡ lists_after ls (front ++ ms)
 lists_along ls front [] p q start mid e here = e ∙ ap (lists_after ls) (sym (append-nil front))
 lists_along ls front (m ∷ ms) p q start mid e (then {q = p'} {mid = next} c a s l) =
     let bs = flat_map (λ k. (adds k).batches) front in
     let xs = flat_map (λ k. (adds k).contests) front in
     let cs = flat_map (λ k. (adds k).candidates) front in
-    let here' = ap (λ (z : Lists). step p z m) (sym e) ∙ s in
+    let here' = ap (λ (z : HeldLists). step p z m) (sym e) ∙ s in
     let one : next ≡ lists_after ls (front ++ m ∷ []) =
     sym (ap (λ (z : Stepped). z.lists) here') ∙ added ls bs xs cs p p' m (ap (λ (z : Stepped). z.answer) here') ∙ after_one ls front m in
     lists_along ls (front ++ m ∷ []) ms p' q next mid one l ∙ ap (lists_after ls) (append_assoc front (m ∷ []) ms)

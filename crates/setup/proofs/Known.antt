@@ -24,7 +24,7 @@ use Rattle.setup.specs.declared.setup.PolicyChoice.{PolicyChoice}
 use Rattle.setup.specs.declared.setup.PolicyChoice.TheVariants.{Fixed, Shrinking}
 use Rattle.setup.specs.declared.setup.Terms.{Terms}
 use Rattle.setup.specs.Described.{Described, BatchesFit, PolicyFits, TermsFit, ContestStands, ContestsStand, WithinLimits, cards_in, assertions_in, policy_number, weight_of, batch_command, terms_command, contest_command, candidate_command, contest_commands, commands, numbers}
-use Rattle.setup.specs.Reading.{Lists, Stepped, setup_of, batch_objection, candidate_objection, contest_objection, slate_objection, slate, after_batch, after_terms, after_contest, after_candidate, policy_from, terms_from, terms_with, opened, nothing_read, step, step_contest, within}
+use Rattle.setup.specs.Reading.{HeldLists, Stepped, setup_of, batch_objection, candidate_objection, contest_objection, slate_objection, slate, after_batch, after_terms, after_contest, after_candidate, policy_from, terms_from, terms_with, opened, nothing_read, step, step_contest, within}
 use Rattle.setup.specs.Accepted.{HasPlaces, lists_with}
 use Rattle.setup.proofs.Added.{admitted}
 use Rattle.setup.proofs.Forward.{votes_are_within}
@@ -32,13 +32,13 @@ use Rattle.setup.proofs.Leads.{Leads, here, then}
 use Rattle.setup.proofs.Steps.{made, step_on_batch, step_on_terms, step_on_contest, step_on_candidate, step_on_last, step_on_opening}
 
 -- Batches and terms that were read in full.
-pub record Head (ls : Lists) (bs : List Batch) (t : Terms) : Type 0 where
+pub record Head (ls : HeldLists) (bs : List Batch) (t : Terms) : Type 0 where
   pub batches_fit : BatchesFit bs
   pub batches_placed : length bs ≤ length ls.batches.memory
   pub terms_fit : TermsFit t
 
 -- Contests that were read in full, with their candidates.
-pub record Body (ls : Lists) (n : ℕ) (xs : List Contest) (cs : List Candidate) : Type 0 where
+pub record Body (ls : HeldLists) (n : ℕ) (xs : List Contest) (cs : List Candidate) : Type 0 where
   pub stand : ContestsStand n xs cs
   pub few : length xs ≤ 8
   pub assertions : assertions_in xs ≤ 256
@@ -46,7 +46,7 @@ pub record Body (ls : Lists) (n : ℕ) (xs : List Contest) (cs : List Candidate)
   pub candidates_placed : length cs ≤ length ls.candidates.memory
 
 -- A contest of which some candidates were read, but not the last.
-pub record Begun (ls : Lists) (n : ℕ) (xs : List Contest) (cs : List Candidate) (x : Contest) (own : List Candidate) : Type 0 where
+pub record Begun (ls : HeldLists) (n : ℕ) (xs : List Contest) (cs : List Candidate) (x : Contest) (own : List Candidate) : Type 0 where
   pub before : Body ls n xs cs
   pub fits : ContestFits x
   pub more : length own < x.candidates
@@ -59,7 +59,7 @@ pub record Begun (ls : Lists) (n : ℕ) (xs : List Contest) (cs : List Candidate
 abbrev pub head : List Batch → Terms → List Cmd → List Cmd
 head bs t ms = map batch_command bs ++ (terms_command t ∷ ms)
 
-pub data Known (ls : Lists) : Progress → Lists → List Cmd → Type 0 where
+pub data Known (ls : HeldLists) : Progress → HeldLists → List Cmd → Type 0 where
   at_start : Known ls nothing_read (lists_with ls [] [] []) []
   in_batches : (bs : List Batch) → BatchesFit bs → length bs ≤ length ls.batches.memory →
       Known ls (made at.Batches (cards_in bs) nothing_read.terms 0 nothing_read.contest 0) (lists_with ls bs [] []) (map batch_command bs)
@@ -76,12 +76,12 @@ pub data Known (ls : Lists) : Progress → Lists → List Cmd → Type 0 where
       Known ls (made at.Opened (cards_in d.batches) d.terms (assertions_in d.contests) x 0)
       (lists_with ls d.batches d.contests d.candidates) (commands d)
 
-known_at : (ls : Lists) {p q : Progress} {l mid : Lists} {ms ns : List Cmd} → Known ls p l ms → p ≡ q → l ≡ mid → ms ≡ ns → Known ls q mid ns
+known_at : (ls : HeldLists) {p q : Progress} {l mid : HeldLists} {ms ns : List Cmd} → Known ls p l ms → p ≡ q → l ≡ mid → ms ≡ ns → Known ls q mid ns
 known_at ls {p} {q} {l} {mid} {ms} {ns} k e f g =
-    subst (λ (z : List Cmd). Known ls q mid z) g (subst (λ (z : Lists). Known ls q z ms) f (subst (λ (z : Progress). Known ls z l ms) e k))
+    subst (λ (z : List Cmd). Known ls q mid z) g (subst (λ (z : HeldLists). Known ls q z ms) f (subst (λ (z : Progress). Known ls z l ms) e k))
 
 -- A step that is known gives what it was said to give.
-module _ {p' q : Progress} {l mid : Lists} {s : Stepped} (e : s ≡ record { answer = Ok p'; lists = l }) (f : s ≡ record { answer = Ok q; lists = mid }) where
+module _ {p' q : Progress} {l mid : HeldLists} {s : Stepped} (e : s ≡ record { answer = Ok p'; lists = l }) (f : s ≡ record { answer = Ok q; lists = mid }) where
   same_progress : p' ≡ q
   same_progress = let h : ◌≡◌ {A = Result Progress Refusal} (Ok p') (Ok q) = ap (λ (z : Stepped). z.answer) (sym e ∙ f) in cc
 
@@ -218,7 +218,7 @@ head_more bs t ms ns = append_assoc (map batch_command bs) (terms_command t ∷ 
 
 -- ---- one command more
 
-module _ (ls : Lists) (q : Progress) (mid : Lists) where
+module _ (ls : HeldLists) (q : Progress) (mid : HeldLists) where
   known_batch : (bs : List Batch) (ph : Phase) (name : List ℕ) (cards : ℕ) → AllByRecursion (λ b. 1 ≤ b.cards) bs →
       step (made ph (cards_in bs) nothing_read.terms 0 nothing_read.contest 0) (lists_with ls bs [] []) (batch name cards)
       ≡ record { answer = Ok q; lists = mid } →
@@ -486,7 +486,7 @@ module _ (ls : Lists) (q : Progress) (mid : Lists) where
   from_between bs t xs cs x hd bd some (count place found marks) w e = no_way w
   from_between bs t xs cs x hd bd some close w e = no_way w
 
-  known_step : {p : Progress} {l : Lists} {ms : List Cmd} → Known ls p l ms → (m : Cmd) → opened p.phase ≡ false → allowed p.phase (code m) ≡ true →
+  known_step : {p : Progress} {l : HeldLists} {ms : List Cmd} → Known ls p l ms → (m : Cmd) → opened p.phase ≡ false → allowed p.phase (code m) ≡ true →
       step p l m ≡ record { answer = Ok q; lists = mid } → Known ls q mid (ms ++ (m ∷ []))
   known_step at_start m o w e = from_start m w e
   known_step (in_batches bs fit placed) m o w e = from_batches bs fit placed m w e
@@ -495,7 +495,7 @@ module _ (ls : Lists) (q : Progress) (mid : Lists) where
   known_step (between bs t xs cs x hd bd some) m o w e = from_between bs t xs cs x hd bd some m w e
   known_step (at_opening d x w' h) m o w e = no_way (sym o)
 
-pub known_along : (ls : Lists) (p q : Progress) (l mid : Lists) (front ms : List Cmd) → Known ls p l front → Leads p l ms q mid →
+pub known_along : (ls : HeldLists) (p q : Progress) (l mid : HeldLists) (front ms : List Cmd) → Known ls p l front → Leads p l ms q mid →
     Known ls q mid (front ++ ms)
 known_along ls p q l mid front [] k here = known_at ls k refl refl (sym (append-nil front))
 known_along ls p q l mid front (m ∷ ms) k (then {q = p'} {mid = next} o w e lead) =
@@ -503,7 +503,7 @@ known_along ls p q l mid front (m ∷ ms) k (then {q = p'} {mid = next} o w e le
     (append_assoc front (m ∷ []) ms)
 
 -- What is known of a setup that was opened.
-pub record Opened (ls : Lists) (p : Progress) (l : Lists) (ms : List Cmd) : Type 0 where
+pub record Opened (ls : HeldLists) (p : Progress) (l : HeldLists) (ms : List Cmd) : Type 0 where
   pub setup : Described
   pub limits : WithinLimits setup
   pub places : HasPlaces ls setup
@@ -511,7 +511,7 @@ pub record Opened (ls : Lists) (p : Progress) (l : Lists) (ms : List Cmd) : Type
   pub lists_are : l ≡ lists_with ls setup.batches setup.contests setup.candidates
   pub commands_are : ms ≡ commands setup
 
-pub known_opened : (ls : Lists) (p : Progress) (l : Lists) (ms : List Cmd) → Known ls p l ms → opened p.phase ≡ true → Opened ls p l ms
+pub known_opened : (ls : HeldLists) (p : Progress) (l : HeldLists) (ms : List Cmd) → Known ls p l ms → opened p.phase ≡ true → Opened ls p l ms
 known_opened ls p l ms at_start o = no_way o
 known_opened ls p l ms (in_batches bs fit placed) o = no_way o
 known_opened ls p l ms (at_terms bs t hd) o = no_way o

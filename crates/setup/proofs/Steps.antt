@@ -19,7 +19,7 @@ use Rattle.setup.specs.declared.setup.PolicyChoice.{PolicyChoice}
 use Rattle.setup.specs.declared.setup.PolicyChoice.TheVariants.{Fixed, Shrinking}
 use Rattle.setup.specs.declared.setup.Terms.{Terms}
 use Rattle.setup.specs.Described.{PolicyFits, TermsFit, policy_number, weight_of, batch_command, terms_command, contest_command, candidate_command}
-use Rattle.setup.specs.Reading.{Lists, Stepped, admits, with_item, batch_objection, policy_from, terms_from, contest_objection, candidate_objection, slate_objection, after_terms, after_candidate, slate, step, step_contest}
+use Rattle.setup.specs.Reading.{HeldLists, Stepped, admits, with_item, batch_objection, policy_from, terms_from, contest_objection, candidate_objection, slate_objection, after_terms, after_candidate, slate, step, step_contest}
 use Rattle.setup.specs.Accepted.{lists_with}
 
 abbrev pub made : Phase → ℕ → Terms → ℕ → Contest → ℕ → Progress
@@ -36,7 +36,7 @@ admitted o h p e f = simp (e, f)
 kept : {T : Type 0} (o : Option Refusal) (h : Held T) (x : T) → o ≡ None → with_item o h x ≡ appended h x
 kept o h x e = simp e
 
-same_step : (r r' : Result Progress Refusal) (l l' : Lists) → r ≡ r' → l ≡ l' →
+same_step : (r r' : Result Progress Refusal) (l l' : HeldLists) → r ≡ r' → l ≡ l' →
     ◌≡◌ {A = Stepped} (record { answer = r; lists = l }) (record { answer = r'; lists = l' })
 same_step r r' l l' e f = cc
 
@@ -63,7 +63,7 @@ contest_back x h =
     (record { in_range = h; same_number = refl; same_candidates = refl; same_seats = refl; same_p = refl; same_q = refl })
 
 -- Each command, over memory that items fill.
-module _ (ls : Lists) (ph : Phase) (n : ℕ) (t : Terms) (a : ℕ) (x : Contest) (r : ℕ) (bs : List Batch) (xs : List Contest) (cs : List Candidate) where
+module _ (ls : HeldLists) (ph : Phase) (n : ℕ) (t : Terms) (a : ℕ) (x : Contest) (r : ℕ) (bs : List Batch) (xs : List Contest) (cs : List Candidate) where
   pub step_on_batch : (b : Batch) → 1 ≤ b.cards → length bs < 200 → n + b.cards ≤ 65535 → length bs < length ls.batches.memory →
       step (made ph n t a x r) (lists_with ls bs xs cs) (batch_command b)
       ≡ record { answer = Ok (made at.Batches (n + b.cards) t a x r); lists = lists_with ls (bs ++ b ∷ []) xs cs }

@@ -13,7 +13,7 @@ use Rattle.format.specs.Format.{Cmd, batch, terms, contest, candidate, opens, en
 use Rattle.format.proofs.Writing.{taken_as_written, shorter}
 use Rattle.setup.specs.declared.progress.Progress.{Progress}
 use Rattle.setup.specs.Described.{WrittenBefore}
-use Rattle.setup.specs.Reading.{Lists, Outcome, admits, batch_objection, candidate_objection, contest_objection, finished, opened, refused, run, setup_of, step, step_contest, turn, with_item}
+use Rattle.setup.specs.Reading.{HeldLists, Outcome, admits, batch_objection, candidate_objection, contest_objection, finished, opened, refused, run, setup_of, step, step_contest, turn, with_item}
 use Rattle.setup.proofs.Leads.{Leads, here, then, turn_on}
 use Rattle.setup.proofs.Turns.{run_on, run_err, run_end}
 
@@ -29,14 +29,14 @@ item_stays : {T : Type 0} (o : Option Refusal) (h : Held T) (x : T) (p : Progres
 item_stays (Some f) h x p e a = refl
 item_stays None h x p e a = full h x p e (has_room h) refl a
 
-contest_stays : (p : Progress) (ls : Lists) (o : Option Contest) (e : Refusal) → (step_contest p ls o).answer ≡ Err e →
+contest_stays : (p : Progress) (ls : HeldLists) (o : Option Contest) (e : Refusal) → (step_contest p ls o).answer ≡ Err e →
     (step_contest p ls o).lists ≡ ls
 contest_stays p ls (Some x) e a =
     let k = item_stays (contest_objection (length ls.contests.items) p.assertions x) ls.contests x _ e a in
     ap (λ (z : Held Contest). record { batches = ls.batches; contests = z; candidates = ls.candidates }) k
 contest_stays p ls None e a = refl
 
-refused_stays : (p : Progress) (ls : Lists) (m : Cmd) (e : Refusal) → (step p ls m).answer ≡ Err e → (step p ls m).lists ≡ ls
+refused_stays : (p : Progress) (ls : HeldLists) (m : Cmd) (e : Refusal) → (step p ls m).answer ≡ Err e → (step p ls m).lists ≡ ls
 refused_stays p ls (batch name cards) e a =
     let b : Batch = record { name = name; cards = cards } in
     let k = item_stays (batch_objection (length ls.batches.items) p.cards b) ls.batches b _ e a in
@@ -57,17 +57,17 @@ refused_stays p ls close e a = refl
 -- ---- the end of a reading
 
 -- The commands ms led from p and ls to where the reading of bs, the last of n bytes, came to o.
-pub record Traced (n : ℕ) (o : Outcome) (p : Progress) (ls : Lists) (bs : List ℕ) : Type 0 where
+pub record Traced (n : ℕ) (o : Outcome) (p : Progress) (ls : HeldLists) (bs : List ℕ) : Type 0 where
   pub ms : List Cmd
   pub progress : Progress
-  pub lists : Lists
+  pub lists : HeldLists
   pub rest : List ℕ
   pub leads : Leads p ls ms progress lists
   pub before : WrittenBefore ms bs rest
   pub ends : ((opened progress.phase ≡ true) × (rest ≡ []) × (o ≡ record { answer = Ok (setup_of progress lists); lists = lists }))
       ⊎ ((e : Refusal) × (o ≡ refused n rest lists e))
 
-module _ (n : ℕ) (p : Progress) (ls : Lists) (bs : List ℕ) where
+module _ (n : ℕ) (p : Progress) (ls : HeldLists) (bs : List ℕ) where
   here_refused : (o : Outcome) (e : Refusal) → o ≡ refused n bs ls e → Traced n o p ls bs
   here_refused o e h =
       record { ms = []; progress = p; lists = ls; rest = bs; leads = here; before = refl; ends = inr (e, h) }
@@ -85,10 +85,10 @@ module _ (n : ℕ) (p : Progress) (ls : Lists) (bs : List ℕ) where
       }
   at_end o false z c h = here_refused o no.TrailingBytes (h ∙ simp z)
 
-module _ (k n : ℕ) (p : Progress) (ls : Lists) (bs : List ℕ) (c : opened p.phase ≡ false) (lt : length bs < suc k)
-    (go : (q : Progress) (mid : Lists) (rest : List ℕ) → length rest < k → Traced n (run k n q mid rest) q mid rest) where
+module _ (k n : ℕ) (p : Progress) (ls : HeldLists) (bs : List ℕ) (c : opened p.phase ≡ false) (lt : length bs < suc k)
+    (go : (q : Progress) (mid : HeldLists) (rest : List ℕ) → length rest < k → Traced n (run k n q mid rest) q mid rest) where
   -- one command, and then as the rest is read
-  on_command : (m : Cmd) (rest : List ℕ) (q : Progress) (mid : Lists) → next p.phase bs ≡ Ok (record { command = m; rest = rest }) →
+  on_command : (m : Cmd) (rest : List ℕ) (q : Progress) (mid : HeldLists) → next p.phase bs ≡ Ok (record { command = m; rest = rest }) →
       step p ls m ≡ record { answer = Ok q; lists = mid } → Traced n (run (suc k) n p ls bs) p ls bs
   on_command m rest q mid e f =
       let w = taken_as_written p.phase m bs rest e in
@@ -121,7 +121,7 @@ module _ (k n : ℕ) (p : Progress) (ls : Lists) (bs : List ℕ) (c : opened p.p
       let t : turn p ls bs ≡ record { answer = Err x; lists = ls } = simp e in
       here_refused n p ls bs (run (suc k) n p ls bs) x (run_err k n p ls bs x ls c t)
 
-pub trace : (k n : ℕ) (p : Progress) (ls : Lists) (bs : List ℕ) → length bs < k → Traced n (run k n p ls bs) p ls bs
+pub trace : (k n : ℕ) (p : Progress) (ls : HeldLists) (bs : List ℕ) → length bs < k → Traced n (run k n p ls bs) p ls bs
 trace zero n p ls bs lt = absurd (omega arith)
 trace (suc k) n p ls bs lt =
     ⊎_elim

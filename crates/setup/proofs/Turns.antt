@@ -1,20 +1,24 @@
 -- The reading of a file, turn by turn.
-use Rattle.std.proofs.Common.{◌≡◌, ℕ, zero, suc, ◌<◌, true, false, List, length, Ok, Err, refl, ap, ◌∙◌, arith}
+use Rattle.std.proofs.Common.{◌≡◌, ℕ, zero, suc, ◌<◌, true, false, List, length, Ok, Err, Result, IsErrAnd, sym, refl, ap, ◌∙◌, subst, arith}
+use Rattle.std.proofs.lemmas.Result.{err_from_is_err_and}
+use Rattle.std.specs.Borrow.{Bor}
+use Rattle.std.specs.Result.{MatchResult}
+use Rattle.refusal.specs.declared.Fault.{Fault}
 use Rattle.refusal.specs.declared.Refusal.{Refusal}
 use Rattle.setup.specs.declared.progress.Progress.{Progress}
-use Rattle.setup.specs.Reading.{Lists, Outcome, Turned, Went, turn, opened, run, following, finished, refused, nothing_read}
+use Rattle.setup.specs.Reading.{HeldLists, Outcome, Turned, Went, turn, opened, run, following, finished, outcome, refused, refused_fault, nothing_read, Shorter, turned}
 
 -- With the bytes bs left of a file of n bytes, and turns enough, the reading still comes to o.
-pub record Reached (n : ℕ) (o : Outcome) (p : Progress) (ls : Lists) (bs : List ℕ) : Type 0 where
+pub record Reached (n : ℕ) (o : Outcome) (p : Progress) (ls : HeldLists) (bs : List ℕ) : Type 0 where
   pub turns : ℕ
   pub enough : length bs < turns
   pub same : o ≡ run turns n p ls bs
 
-pub reached_start : (ls : Lists) (file : List ℕ) → Reached (length file) (following ls file) nothing_read ls file
+pub reached_start : (ls : HeldLists) (file : List ℕ) → Reached (length file) (following ls file) nothing_read ls file
 unfolding following
 reached_start ls file = record { turns = suc (length file); enough = omega arith; same = refl }
 
-pub run_on : (k n : ℕ) (p : Progress) (ls : Lists) (bs : List ℕ) (w : Went) (mid : Lists) → opened p.phase ≡ false →
+pub run_on : (k n : ℕ) (p : Progress) (ls : HeldLists) (bs : List ℕ) (w : Went) (mid : HeldLists) → opened p.phase ≡ false →
     turn p ls bs ≡ record { answer = Ok w; lists = mid } → run (suc k) n p ls bs ≡ run k n w.progress mid w.rest
 unfolding run
 run_on k n p ls bs w mid o e =
@@ -22,7 +26,7 @@ run_on k n p ls bs w mid o e =
     let l : (turn p ls bs).lists ≡ mid = ap (λ (t : Turned). t.lists) e in
     simp (o, a, l)
 
-pub run_err : (k n : ℕ) (p : Progress) (ls : Lists) (bs : List ℕ) (e : Refusal) (mid : Lists) → opened p.phase ≡ false →
+pub run_err : (k n : ℕ) (p : Progress) (ls : HeldLists) (bs : List ℕ) (e : Refusal) (mid : HeldLists) → opened p.phase ≡ false →
     turn p ls bs ≡ record { answer = Err e; lists = mid } → run (suc k) n p ls bs ≡ refused n bs mid e
 unfolding run
 run_err k n p ls bs e mid o h =
@@ -30,32 +34,59 @@ run_err k n p ls bs e mid o h =
     let l : (turn p ls bs).lists ≡ mid = ap (λ (t : Turned). t.lists) h in
     simp (o, a, l)
 
-pub run_end : (k n : ℕ) (p : Progress) (ls : Lists) (bs : List ℕ) → opened p.phase ≡ true → run k n p ls bs ≡ finished n p ls bs
+pub run_end : (k n : ℕ) (p : Progress) (ls : HeldLists) (bs : List ℕ) → opened p.phase ≡ true → run k n p ls bs ≡ finished n p ls bs
 unfolding run
 run_end zero n p ls bs o = refl
 run_end (suc k) n p ls bs o = simp o
 
-module _ (n : ℕ) (o : Outcome) (p : Progress) (ls : Lists) (bs : List ℕ) where
-  on : (k : ℕ) → length bs < k → o ≡ run k n p ls bs → (w : Went) (mid : Lists) → opened p.phase ≡ false →
+module _ (n : ℕ) (o : Outcome) (p : Progress) (ls : HeldLists) (bs : List ℕ) where
+  on : (k : ℕ) → length bs < k → o ≡ run k n p ls bs → (w : Went) (mid : HeldLists) → opened p.phase ≡ false →
       turn p ls bs ≡ record { answer = Ok w; lists = mid } → length w.rest < length bs →
       Reached n o w.progress mid w.rest
   on zero lt same w mid c e short = absurd (omega arith)
   on (suc k) lt same w mid c e short =
       record { turns = k; enough = omega arith; same = same ∙ run_on k n p ls bs w mid c e }
 
-  pub reached_on : Reached n o p ls bs → (w : Went) (mid : Lists) → opened p.phase ≡ false →
+  pub reached_on : Reached n o p ls bs → (w : Went) (mid : HeldLists) → opened p.phase ≡ false →
       turn p ls bs ≡ record { answer = Ok w; lists = mid } → length w.rest < length bs →
       Reached n o w.progress mid w.rest
   reached_on r = on r.turns r.enough r.same
 
-  stopped : (k : ℕ) → length bs < k → o ≡ run k n p ls bs → (e : Refusal) (mid : Lists) → opened p.phase ≡ false →
+  stopped : (k : ℕ) → length bs < k → o ≡ run k n p ls bs → (e : Refusal) (mid : HeldLists) → opened p.phase ≡ false →
       turn p ls bs ≡ record { answer = Err e; lists = mid } → o ≡ refused n bs mid e
   stopped zero lt same e mid c h = absurd (omega arith)
   stopped (suc k) lt same e mid c h = same ∙ run_err k n p ls bs e mid c h
 
-  pub reached_refusal : Reached n o p ls bs → (e : Refusal) (mid : Lists) → opened p.phase ≡ false →
+  pub reached_refusal : Reached n o p ls bs → (e : Refusal) (mid : HeldLists) → opened p.phase ≡ false →
       turn p ls bs ≡ record { answer = Err e; lists = mid } → o ≡ refused n bs mid e
   reached_refusal r = stopped r.turns r.enough r.same
 
   pub reached_end : Reached n o p ls bs → opened p.phase ≡ true → o ≡ finished n p ls bs
   reached_end r c = r.same ∙ run_end r.turns n p ls bs c
+
+-- A turn as the program takes it, whose answer is t, and f with a fault in place of a refusal: it is followed, or ends the reading.
+module _ (n : ℕ) (o : Outcome) (p : Progress) (ls after : HeldLists) (bs : List ℕ) where
+  pub followed_by : Reached n o p ls bs → opened p.phase ≡ false → (t : Result (Progress × Bor (List ℕ)) Refusal) (f : Result (Progress × Bor (List ℕ)) Fault) (x : Progress × Bor (List ℕ)) →
+      turned t after ≡ turn p ls bs → Shorter (length bs) t →
+      MatchResult t (λ v. f ≡ Ok v) (λ e. IsErrAnd f (λ y. y ≡ refused_fault n bs e)) → f ≡ Ok x → Reached n o x.0 after x.1.now
+  followed_by r c (Ok v) f x h s m e =
+      let k : ◌≡◌ {A = Result (Progress × Bor (List ℕ)) Fault} (Ok v) (Ok x) = sym m ∙ e in
+      let same : v ≡ x = cc in
+      subst (λ (z : Progress × Bor (List ℕ)). Reached n o z.0 after z.1.now) same
+      (reached_on n o p ls bs r (record { progress = v.0; rest = v.1.now }) after c (sym h) s)
+  followed_by r c (Err d) f x h s m e =
+      let g = err_from_is_err_and f m in
+      let k : ◌≡◌ {A = Result (Progress × Bor (List ℕ)) Fault} (Err g.0) (Ok x) = sym g.1 ∙ e in
+      absurd (let z : ◌≡◌ {A = ℕ} 0 1 = cc in omega arith)
+
+  pub refused_by : Reached n o p ls bs → opened p.phase ≡ false → (t : Result (Progress × Bor (List ℕ)) Refusal) (f : Result (Progress × Bor (List ℕ)) Fault) (x : Fault) →
+      turned t after ≡ turn p ls bs →
+      MatchResult t (λ v. f ≡ Ok v) (λ e. IsErrAnd f (λ y. y ≡ refused_fault n bs e)) → f ≡ Err x → outcome (Err x) after ≡ o
+  refused_by r c (Ok v) f x h m e =
+      let k : ◌≡◌ {A = Result (Progress × Bor (List ℕ)) Fault} (Ok v) (Err x) = sym m ∙ e in
+      absurd (let z : ◌≡◌ {A = ℕ} 0 1 = cc in omega arith)
+  refused_by r c (Err d) f x h m e =
+      let g = err_from_is_err_and f m in
+      let k : ◌≡◌ {A = Result (Progress × Bor (List ℕ)) Fault} (Err g.0) (Err x) = sym g.1 ∙ e in
+      let same : x ≡ refused_fault n bs d = let z : g.0 ≡ x = cc in sym z ∙ g.2 in
+      ap (λ (y : Fault). outcome (Err y) after) same ∙ sym (reached_refusal n o p ls bs r d after c (sym h))

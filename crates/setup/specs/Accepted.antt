@@ -11,10 +11,10 @@ use Rattle.ballot.specs.Contests.{contest_from}
 use Rattle.format.specs.Format.{Cmd, batch, terms, contest, candidate, opens, entry, verdict, escalate, count, close}
 use Rattle.setup.specs.declared.setup.Setup.{Setup}
 use Rattle.setup.specs.Described.{Described, WithinLimits, WrittenBefore, WrittenForm, numbers}
-use Rattle.setup.specs.Reading.{Lists, Outcome, without_items}
+use Rattle.setup.specs.Reading.{HeldLists, Outcome, without_items}
 
 -- The lists over the same memory, its first places filled with these items.
-abbrev pub lists_with : Lists → List Batch → List Contest → List Candidate → Lists
+abbrev pub lists_with : HeldLists → List Batch → List Contest → List Candidate → HeldLists
 lists_with ls bs xs cs =
     record {
       batches = filled bs ls.batches.memory;
@@ -23,13 +23,13 @@ lists_with ls bs xs cs =
     }
 
 -- The lists' memory has a place for everything that the setup describes.
-pub record HasPlaces (ls : Lists) (d : Described) : Type 0 where
+pub record HasPlaces (ls : HeldLists) (d : Described) : Type 0 where
   pub for_batches : length d.batches ≤ length ls.batches.memory
   pub for_contests : length d.contests ≤ length ls.contests.memory
   pub for_candidates : length d.candidates ≤ length ls.candidates.memory
 
 -- The setup is accepted: its numbers are answered, and the lists hold what it describes.
-abbrev pub accepted : Lists → Described → Outcome
+abbrev pub accepted : HeldLists → Described → Outcome
 accepted ls d =
     record { answer = Ok (numbers d); lists = lists_with ls d.batches d.contests d.candidates }
 
@@ -55,12 +55,12 @@ adds (count place found marks) = nothing
 adds close = nothing
 
 -- The lists after these commands were added to them, the first of all first.
-abbrev pub lists_after : Lists → List Cmd → Lists
+abbrev pub lists_after : HeldLists → List Cmd → HeldLists
 lists_after ls ms =
     lists_with ls (flat_map (λ m. (adds m).batches) ms) (flat_map (λ m. (adds m).contests) ms) (flat_map (λ m. (adds m).candidates) ms)
 
 -- A refusal stands after whole commands, whose items fill the front of each memory; the lists have no items.
-pub record RefusedAfter (ls : Lists) (file : List ℕ) (f : Fault) (after : Lists) : Type 0 where
+pub record RefusedAfter (ls : HeldLists) (file : List ℕ) (f : Fault) (after : HeldLists) : Type 0 where
   pub commands : List Cmd
   pub rest : List ℕ
   pub before : WrittenBefore commands file rest
@@ -69,7 +69,7 @@ pub record RefusedAfter (ls : Lists) (file : List ℕ) (f : Fault) (after : List
 
 -- The reading of a file into lists over this memory: a file is accepted exactly when it is the written form of a setup
 -- within the limits, for which there are places, and then it is that setup that is read.
-pub record ReadsSetups (ls : Lists) (file : List ℕ) (o : Outcome) : Type 0 where
+pub record ReadsSetups (ls : HeldLists) (file : List ℕ) (o : Outcome) : Type 0 where
   pub written_is_read : (d : Described) → WithinLimits d → HasPlaces ls d → WrittenForm d file → o ≡ accepted ls d
   pub read_is_written : (s : Setup) → o.answer ≡ Ok s →
       (d : Described) × WithinLimits d × HasPlaces ls d × WrittenForm d file × (o ≡ accepted ls d)

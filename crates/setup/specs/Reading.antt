@@ -1,12 +1,10 @@
 -- How a setup file is read, command by command, and what each refusal leaves.
-use Rattle.std.specs.Prelude.{ℕ, zero, suc, ◌+◌, ◌-◌, ◌<◌, Bool, true, false, cond, ◌&&◌, ◌||◌, [], ◌∷◌, ◌++◌, length, drop, Some, None, Ok, Err, Option, Result, ◌==◌, nat_le, nat_lt}
-use mathlib.Core.List as lists
+use Rattle.std.specs.Prelude.{◌≡◌, ℕ, zero, suc, ◌+◌, ◌-◌, ◌<◌, Bool, true, false, cond, ◌&&◌, ◌||◌, List, [], ◌∷◌, ◌++◌, length, drop, Some, None, Ok, Err, Option, Result, ◌==◌, nat_le, nat_lt}
 use Rattle.std.specs.Borrow.{Bor}
 use Rattle.refusal.specs.declared.Fault.{Fault}
 use Rattle.refusal.specs.declared.File.TheVariants as file
 use Rattle.refusal.specs.declared.Refusal.{Refusal}
 use Rattle.refusal.specs.declared.Refusal.TheVariants as no
-use Rattle.bounded.specs.declared.List.{List}
 use Rattle.bounded.specs.Lists.{Held, appended, emptied, has_room, held}
 use Rattle.ballot.specs.declared.Batch.{Batch}
 use Rattle.ballot.specs.declared.Candidate.{Candidate}
@@ -17,6 +15,7 @@ use Rattle.ballot.specs.Winners.{has_winners, votes_fit}
 use Rattle.format.specs.declared.command.Phase.{Phase}
 use Rattle.format.specs.declared.command.Phase.TheVariants as at
 use Rattle.format.specs.Format.{Cmd, batch, terms, contest, candidate, opens, entry, verdict, escalate, count, close, Taken, next}
+use Rattle.setup.specs.declared.lists.Lists.{Lists}
 use Rattle.setup.specs.declared.progress.Progress.{Progress}
 use Rattle.setup.specs.declared.setup.PolicyChoice.{PolicyChoice}
 use Rattle.setup.specs.declared.setup.PolicyChoice.TheVariants.{Fixed, Shrinking}
@@ -24,20 +23,31 @@ use Rattle.setup.specs.declared.setup.Setup.{Setup}
 use Rattle.setup.specs.declared.setup.Terms.{Terms}
 
 -- The three lists that a setup is read into.
-pub record Lists : Type 0 where
+pub record HeldLists : Type 0 where
   pub batches : Held Batch
   pub contests : Held Contest
   pub candidates : Held Candidate
 
-abbrev pub held_lists : List Batch → List Contest → List Candidate → Lists
-held_lists batches contests candidates =
-    record { batches = held batches; contests = held contests; candidates = held candidates }
+abbrev pub held_lists : Lists → HeldLists
+held_lists ls =
+    record { batches = held ls.batches; contests = held ls.contests; candidates = held ls.candidates }
 
-abbrev pub without_items : Lists → Lists
+-- The lists are over the same memory as before.
+pub record SameMemory (before after : Lists) : Type 0 where
+  pub batches : after.batches.slots.ghost_name ≡ before.batches.slots.ghost_name
+  pub contests : after.contests.slots.ghost_name ≡ before.contests.slots.ghost_name
+  pub candidates : after.candidates.slots.ghost_name ≡ before.candidates.slots.ghost_name
+
+abbrev pub without_items : HeldLists → HeldLists
 without_items ls =
     record { batches = emptied ls.batches; contests = emptied ls.contests; candidates = emptied ls.candidates }
 
 -- ---- what the rules object to
+
+-- What a test answers: the objection, if there is one.
+abbrev pub unless : Option Refusal → Result Unit Refusal
+unless (Some e) = Err e
+unless None = Ok tt
 
 abbrev pub within : ℕ → ℕ → ℕ → Bool
 within low high x = nat_le low x && nat_le x high
@@ -69,19 +79,19 @@ contest_objection contests assertions x =
     (cond (nat_lt 256 (assertions + assertion_count x)) (Some no.TooManyAssertions) None)
 
 -- A contest with all its candidates, and n cards.
-abbrev pub slate_objection : ℕ → Contest → lists.List Candidate → Option Refusal
+abbrev pub slate_objection : ℕ → Contest → List Candidate → Option Refusal
 slate_objection n x cs =
     cond (votes_fit x n cs) (cond (has_winners x cs) None (Some no.NoWinners))
     (Some no.TooManyVotes)
 
 -- The candidates of the contest that is being read, this one the last of them.
-abbrev pub slate : Progress → lists.List Candidate → Candidate → lists.List Candidate
+abbrev pub slate : Progress → List Candidate → Candidate → List Candidate
 slate p before c = drop (length before - p.read) before ++ c ∷ []
 
 abbrev pub is_last : Progress → Bool
 is_last p = nat_le p.contest.candidates (p.read + 1)
 
-abbrev pub candidate_objection : Progress → lists.List Candidate → Candidate → Option Refusal
+abbrev pub candidate_objection : Progress → List Candidate → Candidate → Option Refusal
 candidate_objection p before c =
     cond (nat_lt p.cards c.votes) (Some no.TooManyVotes)
     (cond (is_last p) (slate_objection p.cards p.contest (slate p before c)) None)
@@ -156,9 +166,9 @@ after_opening p =
 -- What a command answers, and the lists after it.
 pub record Stepped : Type 0 where
   pub answer : Result Progress Refusal
-  pub lists : Lists
+  pub lists : HeldLists
 
-abbrev pub step_batch : Progress → Lists → Batch → Stepped
+abbrev pub step_batch : Progress → HeldLists → Batch → Stepped
 step_batch p ls b =
     record {
       answer = admits (batch_objection (length ls.batches.items) p.cards b) ls.batches (after_batch p b);
@@ -169,7 +179,7 @@ step_batch p ls b =
       };
     }
 
-abbrev pub step_contest : Progress → Lists → Option Contest → Stepped
+abbrev pub step_contest : Progress → HeldLists → Option Contest → Stepped
 step_contest p ls (Some x) =
     record {
       answer = admits (contest_objection (length ls.contests.items) p.assertions x) ls.contests (after_contest p x);
@@ -181,7 +191,7 @@ step_contest p ls (Some x) =
     }
 step_contest p ls None = record { answer = Err no.BadContest; lists = ls }
 
-abbrev pub step_candidate : Progress → Lists → Candidate → Stepped
+abbrev pub step_candidate : Progress → HeldLists → Candidate → Stepped
 step_candidate p ls c =
     record {
       answer = admits (candidate_objection p ls.candidates.items c) ls.candidates (after_candidate p);
@@ -192,10 +202,10 @@ step_candidate p ls c =
       };
     }
 
-abbrev pub stays : Lists → Result Progress Refusal → Stepped
+abbrev pub stays : HeldLists → Result Progress Refusal → Stepped
 stays ls r = record { answer = r; lists = ls }
 
-abbrev pub step : Progress → Lists → Cmd → Stepped
+abbrev pub step : Progress → HeldLists → Cmd → Stepped
 step p ls (batch name cards) = step_batch p ls (record { name = name; cards = cards })
 step p ls (terms r d policy weight) = stays ls (after_terms p (terms_from r d policy weight))
 step p ls (contest kind c k a b) = step_contest p ls (contest_from kind c k a b)
@@ -212,32 +222,32 @@ step p ls close = stays ls (Err no.OutOfOrder)
 -- How far the reading has come, and the bytes that are left.
 pub record Went : Type 0 where
   pub progress : Progress
-  pub rest : lists.List ℕ
+  pub rest : List ℕ
 
 pub record Turned : Type 0 where
   pub answer : Result Went Refusal
-  pub lists : Lists
+  pub lists : HeldLists
 
-abbrev pub went : Result Progress Refusal → lists.List ℕ → Result Went Refusal
+abbrev pub went : Result Progress Refusal → List ℕ → Result Went Refusal
 went (Ok p) rest = Ok (record { progress = p; rest = rest })
 went (Err e) rest = Err e
 
-abbrev pub followed : Progress → Lists → Result Taken Refusal → Turned
+abbrev pub followed : Progress → HeldLists → Result Taken Refusal → Turned
 followed p ls (Ok t) =
     record { answer = went (step p ls t.command).answer t.rest; lists = (step p ls t.command).lists }
 followed p ls (Err e) = record { answer = Err e; lists = ls }
 
 -- The next command is taken and followed.
-abbrev pub turn : Progress → Lists → lists.List ℕ → Turned
+abbrev pub turn : Progress → HeldLists → List ℕ → Turned
 turn p ls bs = followed p ls (next p.phase bs)
 
 -- What a turn of the program answers, and the lists after it, as the same.
-abbrev pub turned : Result (Progress × Bor (lists.List ℕ)) Refusal → Lists → Turned
+abbrev pub turned : Result (Progress × Bor (List ℕ)) Refusal → HeldLists → Turned
 turned (Ok x) ls = record { answer = Ok (record { progress = x.0; rest = x.1.now }); lists = ls }
 turned (Err e) ls = record { answer = Err e; lists = ls }
 
 -- Fewer than n bytes are left.
-abbrev pub Shorter : ℕ → Result (Progress × Bor (lists.List ℕ)) Refusal → Type 0
+abbrev pub Shorter : ℕ → Result (Progress × Bor (List ℕ)) Refusal → Type 0
 Shorter n (Ok x) = length x.1.now < n
 Shorter n (Err e) = Unit {0}
 
@@ -266,16 +276,16 @@ opened at.Closed = false
 -- What reading a file answers, and the lists after it.
 pub record Outcome : Type 0 where
   pub answer : Result Setup Fault
-  pub lists : Lists
+  pub lists : HeldLists
 
 -- A refusal at the bytes bs, the last of a file of n bytes.
-abbrev pub refused_fault : ℕ → lists.List ℕ → Refusal → Fault
+abbrev pub refused_fault : ℕ → List ℕ → Refusal → Fault
 refused_fault n bs e = record { refusal = e; file = file.Setup; offset = n - length bs }
 
-abbrev pub refused : ℕ → lists.List ℕ → Lists → Refusal → Outcome
+abbrev pub refused : ℕ → List ℕ → HeldLists → Refusal → Outcome
 refused n bs ls e = record { answer = Err (refused_fault n bs e); lists = ls }
 
-abbrev pub setup_of : Progress → Lists → Setup
+abbrev pub setup_of : Progress → HeldLists → Setup
 setup_of p ls =
     record {
       batches = length ls.batches.items;
@@ -287,33 +297,33 @@ setup_of p ls =
     }
 
 -- After the opening no byte may follow.
-abbrev pub finished : ℕ → Progress → Lists → lists.List ℕ → Outcome
+abbrev pub finished : ℕ → Progress → HeldLists → List ℕ → Outcome
 finished n p ls bs =
     cond (length bs == 0) (record { answer = Ok (setup_of p ls); lists = ls }) (refused n bs ls no.TrailingBytes)
 
-abbrev pub onward : ℕ → lists.List ℕ → (Progress → Lists → lists.List ℕ → Outcome) → Result Went Refusal → Lists → Outcome
+abbrev pub onward : ℕ → List ℕ → (Progress → HeldLists → List ℕ → Outcome) → Result Went Refusal → HeldLists → Outcome
 onward n bs go (Ok w) ls = go w.progress ls w.rest
 onward n bs go (Err e) ls = refused n bs ls e
 
 -- The bytes bs, the last of a file of n bytes, read in at most k turns.
-unfoldable pub run : ℕ → ℕ → Progress → Lists → lists.List ℕ → Outcome
+unfoldable pub run : ℕ → ℕ → Progress → HeldLists → List ℕ → Outcome
 run zero n p ls bs = finished n p ls bs
 run (suc k) n p ls bs =
     cond (opened p.phase) (finished n p ls bs) (onward n bs (run k n) (turn p ls bs).answer (turn p ls bs).lists)
 
 -- The commands of a whole file: each turn takes a byte at least, so that there are turns enough.
-unfoldable pub following : Lists → lists.List ℕ → Outcome
+unfoldable pub following : HeldLists → List ℕ → Outcome
 following ls file = run (suc (length file)) (length file) nothing_read ls file
 
 -- A refusal leaves the lists without items.
-abbrev pub emptied_where_refused : Result Setup Fault → Lists → Outcome
+abbrev pub emptied_where_refused : Result Setup Fault → HeldLists → Outcome
 emptied_where_refused (Ok s) ls = record { answer = Ok s; lists = ls }
 emptied_where_refused (Err f) ls = record { answer = Err f; lists = without_items ls }
 
 -- A whole file: the lists are emptied first, and again where it is refused.
-abbrev pub reading : Lists → lists.List ℕ → Outcome
+abbrev pub reading : HeldLists → List ℕ → Outcome
 reading ls file =
     emptied_where_refused (following (without_items ls) file).answer (following (without_items ls) file).lists
 
-abbrev pub outcome : Result Setup Fault → Lists → Outcome
+abbrev pub outcome : Result Setup Fault → HeldLists → Outcome
 outcome r ls = record { answer = r; lists = ls }

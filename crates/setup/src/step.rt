@@ -2,11 +2,11 @@
 ghost use Rattle.std.specs.Prelude.{◌≡◌, length};
 ghost use Rattle.bounded.specs.Lists.{held};
 ghost use Rattle.format.specs.Format.{meant};
-ghost use Rattle.setup.specs.Reading.{admits, after_batch, after_candidate, after_contest, after_terms, batch_objection, candidate_objection, contest_objection, held_lists, stays, step, terms_from, with_item};
+ghost use Rattle.setup.specs.Reading.{admits, after_batch, after_candidate, after_contest, batch_objection, candidate_objection, contest_objection, held_lists, SameMemory, stays, step, with_item};
 
+use crate::lists::Lists;
 use crate::objections::{is_last, terms_from, to_batch, to_candidate, to_contest};
 use crate::progress::Progress;
-use crate::setup::Terms;
 use ballot::{Batch, Candidate, Contest};
 use bounded::List;
 use format::command::{Command, Phase};
@@ -18,29 +18,13 @@ fn add_batch(at: Progress, batches: &mut List<'_, Batch>, batch: Batch) -> Resul
     ensures holds { held batches.new ≡ with_item (batch_objection (length (held batches.old).items) at.cards batch) (held batches.old) batch }
     ensures lender { batches.new.slots.ghost_name ≡ batches.old.slots.ghost_name }
 {
-    if let Some(refusal) = to_batch(batches.len(), at.cards, &batch) {
-        return Err(refusal);
-    }
+    to_batch(batches.len(), at.cards, &batch)?;
     batches.append(batch)?;
     Ok(Progress {
         phase: Phase::Batches,
         cards: at.cards + batch.cards,
         ..at
     })
-}
-
-/// The terms.
-fn set_terms(at: Progress, terms: Option<Terms>) -> Result<Progress, Refusal>
-    ensures { result ≡ after_terms at terms }
-{
-    match terms {
-        Some(terms) => Ok(Progress {
-            phase: Phase::Terms,
-            terms,
-            ..at
-        }),
-        None => Err(Refusal::BadTerms),
-    }
 }
 
 /// One contest more.
@@ -53,9 +37,7 @@ fn add_contest(
     ensures holds { held contests.new ≡ with_item (contest_objection (length (held contests.old).items) at.assertions contest) (held contests.old) contest }
     ensures lender { contests.new.slots.ghost_name ≡ contests.old.slots.ghost_name }
 {
-    if let Some(refusal) = to_contest(contests.len(), at.assertions, &contest) {
-        return Err(refusal);
-    }
+    to_contest(contests.len(), at.assertions, &contest)?;
     contests.append(contest)?;
     Ok(Progress {
         phase: Phase::Candidates,
@@ -94,9 +76,7 @@ fn add_candidate(
     ensures holds { held candidates.new ≡ with_item (candidate_objection at (held candidates.old).items candidate) (held candidates.old) candidate }
     ensures lender { candidates.new.slots.ghost_name ≡ candidates.old.slots.ghost_name }
 {
-    if let Some(refusal) = to_candidate(&at, candidates.items(), &candidate) {
-        return Err(refusal);
-    }
+    to_candidate(&at, candidates.items(), &candidate)?;
     candidates.append(candidate)?;
     Ok(after_candidate(at))
 }
@@ -104,40 +84,47 @@ fn add_candidate(
 /// What a command makes of how far the reading has come, and of the three lists.
 pub(crate) fn step(
     at: Progress,
-    batches: &mut List<'_, Batch>,
-    contests: &mut List<'_, Contest>,
-    candidates: &mut List<'_, Candidate>,
+    lists: &mut Lists<'_>,
     command: Command<'_>,
 ) -> Result<Progress, Refusal>
-    ensures value { stays (held_lists batches.new contests.new candidates.new) result ≡ step at (held_lists batches.old contests.old candidates.old) (meant command.entry) }
-    ensures batches { batches.new.slots.ghost_name ≡ batches.old.slots.ghost_name }
-    ensures contests { contests.new.slots.ghost_name ≡ contests.old.slots.ghost_name }
-    ensures candidates { candidates.new.slots.ghost_name ≡ candidates.old.slots.ghost_name }
+    ensures value { stays (held_lists lists.new) result ≡ step at (held_lists lists.old) (meant command.entry) }
+    ensures memory { SameMemory lists.old lists.new }
 {
     match command {
         Command::Batch { name, cards } => {
             let batch = Batch { name: *name, cards };
-            add_batch(at, batches, batch)
+            add_batch(at, &mut lists.batches, batch)
         }
         Command::Terms {
             risk_limit,
             draw_limit,
             policy,
             weight,
-        } => set_terms(at, terms_from(risk_limit, draw_limit, policy, weight)),
+        } => {
+            let terms = terms_from(risk_limit, draw_limit, policy, weight).ok_or(
+                Refusal::BadTerms,
+            )?;
+            Ok(Progress {
+                phase: Phase::Terms,
+                terms,
+                ..at
+            })
+        }
         Command::Contest {
             kind,
             candidates,
             seats,
             p,
             q,
-        } => match Contest::from_operands(kind, candidates, seats, p, q) {
-            Some(contest) => add_contest(at, contests, contest),
-            None => Err(Refusal::BadContest),
-        },
+        } => {
+            let contest = Contest::from_operands(kind, candidates, seats, p, q).ok_or(
+                Refusal::BadContest,
+            )?;
+            add_contest(at, &mut lists.contests, contest)
+        }
         Command::Candidate { name, votes } => {
             let candidate = Candidate { name: *name, votes };
-            add_candidate(at, candidates, candidate)
+            add_candidate(at, &mut lists.candidates, candidate)
         }
         Command::Open => Ok(Progress {
             phase: Phase::Opened,

@@ -1,83 +1,48 @@
-use Rattle.std.proofs.Common.{◌≡◌, true, false, eqb, length, Err, sym, refl, ap, ◌∙◌, subst, arith, eq-eqb, ne_eqb}
+use Rattle.std.proofs.Common.{◌≡◌, length, eqb, Ok, Err, rules, sym, ap, ◌∙◌, true, false, IsErrAnd}
+use Rattle.std.specs.Result.{MatchResult}
+use Rattle.std.proofs.lemmas.Result.{MatchResult-weaker}
 use Rattle.refusal.specs.declared.Fault.{Fault}
-use Rattle.setup.specs.declared.progress.Progress.{Progress}
-use Rattle.setup.specs.Reading.{following, held_lists, opened, outcome}
-use Rattle.setup.proofs.Turns.{Reached, reached_start, reached_on, reached_refusal, reached_end}
 use Rattle.setup.proofs.read.read_commands.Goals as goal
-
-pub turns-init : goal.turns-init
-turns-init c =
-    let file = c.args.file.now in
-    let ls = held_lists c.args.batches.now c.args.contests.now c.args.candidates.now in (
-      subst (λ (p : Progress). Reached (length file) (following ls file) p ls file) (sym c.nothing_read-at.ensures)
-          (reached_start ls file),
-      omega arith,
-      refl,
-      refl,
-      refl,
-    )
+use Rattle.setup.specs.Reading.{held_lists, opened, outcome, refused_fault}
+use Rattle.setup.proofs.Turns.{followed_by, refused_by, reached_end}
 
 pub turns-preserved : goal.turns-preserved
 turns-preserved c =
     let file = c.args.file.now in
-    let ls = held_lists c.args.batches.now c.args.contests.now c.args.candidates.now in
-    let now = held_lists c.turns.batches c.turns.contests c.turns.candidates in
+    let now = c.turns.rest.now in
+    let k = c.turn.ensures in
+    let m : MatchResult c.turn.result (λ v. c.map_err.result ≡ Ok v) (λ e. IsErrAnd c.map_err.result (λ y. y ≡ refused_fault (length file) now e)) =
+    MatchResult-weaker c.turn.result c.map_err.ensures.cases (λ x h. h) (λ e h. search rules) in
     let e : opened c.turns.at.phase ≡ false = sym c.is_opened.ensures ∙ c.turns-test.true in
-    let k = c.in-Ok.ensures in (
-      reached_on (length file) (following ls file) c.turns.at now c.turns.rest.now c.turns.invariant.0
-          (record { progress = c.in-Ok.next; rest = c.in-Ok.after.now })
-          (held_lists c.turn.new.batches c.turn.new.contests c.turn.new.candidates) e (sym k.value)
-          k.shorter,
-      omega (arith, k.shorter),
-      k.batches ∙ c.turns.invariant.2,
-      k.contests ∙ c.turns.invariant.3,
-      k.candidates ∙ c.turns.invariant.4,
-    )
+    record {
+      reached =
+          followed_by _ _ _ _ _ _ c.turns.invariant.reached e c.turn.result c.map_err.result (c.in_ok-next.next, c.in_ok-next.after)
+          k.value k.shorter m c.in_ok-next.was;
+      memory = search rules;
+    }
 
-pub returns-in-Err : goal.returns-in-Err
-returns-in-Err c =
+pub returns-in_err-next-clause-value : goal.returns-in_err-next-clause-value
+returns-in_err-next-clause-value c =
     let file = c.args.file.now in
-    let ls = held_lists c.args.batches.now c.args.contests.now c.args.candidates.now in
-    let now = held_lists c.turns.batches c.turns.contests c.turns.candidates in
-    let after = held_lists c.turn.new.batches c.turn.new.contests c.turn.new.candidates in
+    let now = c.turns.rest.now in
+    let k = c.turn.ensures in
+    let m : MatchResult c.turn.result (λ v. c.map_err.result ≡ Ok v) (λ e. IsErrAnd c.map_err.result (λ y. y ≡ refused_fault (length file) now e)) =
+    MatchResult-weaker c.turn.result c.map_err.ensures.cases (λ x h. h) (λ e h. search rules) in
+    let r : c.from_residual.result ≡ Err c.in_err-next.field-0.0 = search rules in
     let e : opened c.turns.at.phase ≡ false = sym c.is_opened.ensures ∙ c.turns-test.true in
-    let k = c.in-Err.ensures in
-    record {
-      value =
-          ap (λ (f : Fault). outcome (Err f) after) c.fault.ensures
-          ∙ sym (reached_refusal (length file) (following ls file) c.turns.at now c.turns.rest.now
-          c.turns.invariant.0 c.in-Err.refusal after e (sym k.value));
-      batches = k.batches ∙ c.turns.invariant.2;
-      contests = k.contests ∙ c.turns.invariant.3;
-      candidates = k.candidates ∙ c.turns.invariant.4;
-    }
+    ap (λ (z : _). outcome z (held_lists c.turn.new.lists)) r
+    ∙ refused_by _ _ _ _ _ _ c.turns.invariant.reached e c.turn.result c.map_err.result _ k.value m c.in_err-next.was
 
-pub returns-then-rest-gt0 : goal.returns-then-rest-gt0
-returns-then-rest-gt0 c =
-    let file = c.args.file.now in
-    let ls = held_lists c.args.batches.now c.args.contests.now c.args.candidates.now in
-    let now = held_lists c.turns.batches c.turns.contests c.turns.candidates in
+pub returns-then-not-is_empty-clause-value : goal.returns-then-not-is_empty-clause-value
+returns-then-not-is_empty-clause-value c =
     let e : opened c.turns.at.phase ≡ true = sym c.is_opened.ensures ∙ c.turns-test.false in
-    let k = reached_end (length file) (following ls file) c.turns.at now c.turns.rest.now c.turns.invariant.0 e in
-    let some : eqb (length c.turns.rest.now) 0 ≡ false = ne_eqb (length c.turns.rest.now) 0 (λ z. omega arith) in
-    record {
-      value = ap (λ (f : Fault). outcome (Err f) now) c.fault-then-rest-gt0.ensures ∙ sym (k ∙ simp some);
-      batches = c.turns.invariant.2;
-      contests = c.turns.invariant.3;
-      candidates = c.turns.invariant.4;
-    }
+    let k = reached_end _ _ _ _ _ c.turns.invariant.reached e in
+    let some : eqb (length c.turns.rest.now) 0 ≡ false = search rules in
+    ap (λ (f : Fault). outcome (Err f) (held_lists c.turns.lists)) c.at.ensures ∙ sym (k ∙ simp some)
 
-pub returns : goal.returns
-returns c =
-    let file = c.args.file.now in
-    let ls = held_lists c.args.batches.now c.args.contests.now c.args.candidates.now in
-    let now = held_lists c.turns.batches c.turns.contests c.turns.candidates in
+pub returns-clause-value : goal.returns-clause-value
+returns-clause-value c =
     let e : opened c.turns.at.phase ≡ true = sym c.is_opened.ensures ∙ c.turns-test.false in
-    let k = reached_end (length file) (following ls file) c.turns.at now c.turns.rest.now c.turns.invariant.0 e in
-    let none : eqb (length c.turns.rest.now) 0 ≡ true = eq-eqb (length c.turns.rest.now) 0 (omega arith) in
-    record {
-      value = sym (k ∙ simp none (cc (c.len.ensures, c.len-2.ensures, c.len-3.ensures)));
-      batches = c.turns.invariant.2;
-      contests = c.turns.invariant.3;
-      candidates = c.turns.invariant.4;
-    }
+    let k = reached_end _ _ _ _ _ c.turns.invariant.reached e in
+    let none : eqb (length c.turns.rest.now) 0 ≡ true = search rules in
+    sym (k ∙ simp none (cc (c.len.ensures, c.len-2.ensures, c.len-3.ensures)))
