@@ -1,7 +1,8 @@
 -- Memory that holds nothing yet: 200 batches, 8 contests, 256 candidates and 256 assertions.
-use Rattle.std.specs.Prelude.{◌≡◌, map, replicate}
+use Rattle.std.specs.Prelude.{◌≡◌, [], map, replicate}
 use Rattle.assertion.specs.Assertions.{meant, share}
 use Rattle.ballot.specs.declared.Kind.TheVariants.{Plurality}
+use Rattle.setup.specs.Reading.{HeldLists}
 use Rattle.intake.specs.declared.memory.Memory.{Memory}
 
 pub record Blank (m : Memory) : Type 0 where
@@ -9,3 +10,12 @@ pub record Blank (m : Memory) : Type 0 where
   pub contests : m.contests ≡ replicate 8 (record { kind = Plurality; candidates = 0; seats = 0 })
   pub candidates : m.candidates ≡ replicate 256 (record { name = replicate 8 0; votes = 0 })
   pub planned : map meant m.planned ≡ replicate 256 (record { claim = share 0 0 1 2; bet = 0 })
+
+-- Empty lists of a setup, over the whole memory of each.
+abbrev pub empty_lists : Memory → HeldLists
+empty_lists m =
+    record {
+      batches = record { items = []; memory = m.batches };
+      contests = record { items = []; memory = m.contests };
+      candidates = record { items = []; memory = m.candidates };
+    }

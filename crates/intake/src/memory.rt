@@ -1,34 +1,25 @@
 //! Memory for whatever a setup within the limits describes.
-ghost use Rattle.std.specs.Prelude.{◌≡◌};
-ghost use Rattle.assertion.specs.Assertions.{meant, share};
-ghost use Rattle.intake.specs.Memories.{Blank};
+ghost use Rattle.std.specs.Prelude.{◌≡◌, []};
+ghost use Rattle.bounded.specs.Lists.{held};
+ghost use Rattle.setup.specs.Reading.{held_lists};
+ghost use Rattle.intake.specs.Memories.{Blank, empty_lists};
 
-use assertion::{Assertion, Planned, Share};
+use assertion::Planned;
+use ballot::limits::{ASSERTIONS, BATCHES, CONTESTS};
 use ballot::{Batch, Candidate, Contest, Kind};
+use bounded::List;
+use setup::lists::Lists;
+
+/// The most candidates: each contest has at most 32.
+pub const CANDIDATES: usize = 256;
 
 /// As many places as the limits let a setup fill.
 #[derive(Drop)]
 pub struct Memory {
-    pub batches: [Batch; 200],
-    pub contests: [Contest; 8],
-    pub candidates: [Candidate; 256],
-    pub planned: [Planned; 256],
-}
-
-/// An assertion that no contest makes.
-fn no_assertion() -> Planned
-    ensures { meant result ≡ record { claim = share 0 0 1 2; bet = 0 } }
-{
-    let share = Share {
-        contest: 0,
-        winner: 0,
-        p: 1,
-        q: 2,
-    };
-    Planned {
-        assertion: Assertion::Share(share),
-        first_bet: 0,
-    }
+    pub batches: [Batch; BATCHES],
+    pub contests: [Contest; CONTESTS],
+    pub candidates: [Candidate; CANDIDATES],
+    pub planned: [Planned; ASSERTIONS as usize],
 }
 
 impl Memory {
@@ -50,10 +41,29 @@ impl Memory {
             votes: 0,
         };
         Memory {
-            batches: [batch; 200],
-            contests: [contest; 8],
-            candidates: [candidate; 256],
-            planned: [no_assertion(); 256],
+            batches: [batch; BATCHES],
+            contests: [contest; CONTESTS],
+            candidates: [candidate; CANDIDATES],
+            planned: [Planned::BLANK; ASSERTIONS as usize],
         }
+    }
+
+    /// Empty lists over these places: those that a setup is read into, and that of its assertions.
+    pub fn lists(&mut self) -> (Lists<'_>, List<'_, Planned>)
+        ensures setup { held_lists result.0 ≡ empty_lists self.old }
+        ensures planned { held result.1 ≡ record { items = []; memory = self.old.planned } }
+    {
+        let Memory {
+            batches,
+            contests,
+            candidates,
+            planned,
+        } = self;
+        let lists = Lists {
+            batches: List::over(batches),
+            contests: List::over(contests),
+            candidates: List::over(candidates),
+        };
+        (lists, List::over(planned))
     }
 }
