@@ -10,13 +10,7 @@ pub struct Name(pub [u8; 8]);
 
 /// How many of the bytes come before the blanks at the end.
 fn length(bytes: &[u8; 8]) -> usize {
-    let mut n = 0;
-    for (i, b) in bytes.iter().enumerate() {
-        if *b != b' ' {
-            n = i + 1;
-        }
-    }
-    n
+    bytes.iter().rposition(|&b| b != b' ').map_or(0, |i| i + 1)
 }
 
 impl fmt::Display for Name {

@@ -8,10 +8,10 @@ mod outcome;
 mod steps;
 
 use assertion::{Planned, list_assertions};
-use ballot::{Candidate, Contest};
 use bounded::List;
 use intake::memory::Memory;
 use intake::read_file;
+use setup::lists::Lists;
 use setup::read::read_setup;
 use setup::setup::Terms;
 use std::io;
@@ -21,47 +21,29 @@ fn follow(
     rt: &HostRuntime,
     line: &str,
     terms: &Terms,
-    contests: &[Contest],
-    candidates: &[Candidate],
-    memory: &mut [Planned],
+    lists: &Lists<'_>,
+    planned: &mut List<'_, Planned>,
 ) -> io::Result<()> {
-    let mut planned = List::over(memory);
-    if let Err(refusal) = list_assertions(contests, candidates, &mut planned) {
-        let number = refusal.number();
-        return println!(rt; "refused {number}");
+    let listed = list_assertions(lists.contests.items(), lists.candidates.items(), planned);
+    if let Err(refusal) = listed {
+        return println!(rt; "{refusal}");
     }
-    let (first, outcomes) = match line.trim().split_once(' ') {
-        Some(parts) => parts,
-        None => (line.trim(), ""),
-    };
+    let line = line.trim();
+    let (first, outcomes) = line.split_once(' ').unwrap_or((line, ""));
     let number = first.parse::<usize>().unwrap_or(0);
-    if number == 0 {
-        return println!(rt; "no assertion {first}");
-    }
-    match planned.get(number - 1) {
-        Ok(chosen) => steps::print_steps(rt, number, &chosen, terms, outcomes),
-        Err(_) => println!(rt; "no assertion {first}"),
+    let chosen = number.checked_sub(1).and_then(|i| planned.items().get(i));
+    match chosen {
+        Some(chosen) => steps::print_steps(rt, number, chosen, terms, outcomes),
+        None => println!(rt; "no assertion {first}"),
     }
 }
 
 /// Reads the bytes as a setup, and follows the line on it.
 fn pencil(rt: &HostRuntime, file: &[u8], line: &str) -> io::Result<()> {
     let mut memory = Memory::blank();
-    let mut batches = List::over(&mut memory.batches);
-    let mut contests = List::over(&mut memory.contests);
-    let mut candidates = List::over(&mut memory.candidates);
-    match read_setup(file, &mut batches, &mut contests, &mut candidates) {
-        Ok(setup) => {
-            let terms = setup.terms;
-            follow(
-                rt,
-                line,
-                &terms,
-                contests.items(),
-                candidates.items(),
-                &mut memory.planned,
-            )
-        }
+    let (mut lists, mut planned) = memory.lists();
+    match read_setup(file, &mut lists) {
+        Ok(setup) => follow(rt, line, &setup.terms, &lists, &mut planned),
         Err(fault) => println!(rt; "{fault}"),
     }
 }

@@ -1,6 +1,8 @@
 //! What a card can be to an assertion.
 ghost use Rattle.std.specs.Prelude.{◌≡◌};
-ghost use Rattle.pencil.specs.Outcomes.{outcome_value};
+ghost use Rattle.pencil.specs.Outcomes.{Named, outcome_value};
+
+use std::str::FromStr;
 
 /// The four outcomes.
 #[derive(Clone, Copy)]
@@ -15,14 +17,23 @@ pub enum Outcome {
     Missing,
 }
 
-/// The outcome with this name.
-pub(crate) fn outcome_named(word: &str) -> Option<Outcome> {
-    match word {
-        "win" => Some(Outcome::Win),
-        "loss" => Some(Outcome::Loss),
-        "blank" => Some(Outcome::Blank),
-        "missing" => Some(Outcome::Missing),
-        _ => None,
+/// The word names no outcome.
+#[derive(Clone, Copy, Debug)]
+pub struct NoOutcome;
+
+impl FromStr for Outcome {
+    type Err = NoOutcome;
+
+    ghost from_str_gives = { Named };
+
+    fn from_str(word: &str) -> Result<Outcome, NoOutcome> {
+        match word {
+            "win" => Ok(Outcome::Win),
+            "loss" => Ok(Outcome::Loss),
+            "blank" => Ok(Outcome::Blank),
+            "missing" => Ok(Outcome::Missing),
+            _ => Err(NoOutcome),
+        }
     }
 }
 

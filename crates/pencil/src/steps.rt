@@ -1,23 +1,10 @@
 //! The steps of one assertion's money game, a line for each.
-use crate::outcome::{outcome_named, value_of};
+use crate::outcome::{Outcome, value_of};
 use assertion::{Assertion, Planned};
-use betting::{ChosenPolicy, Fixed, Policy, Record, Shrinking, play, stake};
-use setup::setup::{PolicyChoice, Terms};
+use betting::{ChosenPolicy, Policy, Record, play, stake};
+use opening::first_policy;
+use setup::setup::Terms;
 use std::io;
-
-/// The policy that the terms choose, at the start of an assertion's test.
-fn policy_for(choice: PolicyChoice, planned: &Planned) -> Option<ChosenPolicy> {
-    let bet = planned.first_bet;
-    match choice {
-        PolicyChoice::Fixed => Some(ChosenPolicy::Fixed(Fixed { bet })),
-        PolicyChoice::Shrinking { weight } => {
-            let half = planned.assertion.half();
-            let top = planned.assertion.top();
-            let policy = Shrinking::new(bet, weight, half, top)?;
-            Some(ChosenPolicy::Shrinking(policy))
-        }
-    }
-}
 
 /// Plays one outcome, and prints what it did.
 fn print_step(
@@ -27,7 +14,7 @@ fn print_step(
     word: &str,
     risk_limit: u16,
 ) -> io::Result<()> {
-    let Some(outcome) = outcome_named(word) else {
+    let Ok(outcome) = word.parse::<Outcome>() else {
         return println!(rt; "{step} {word}: no outcome");
     };
     if held.is_settled(risk_limit) {
@@ -55,14 +42,11 @@ pub(crate) fn print_steps(
     terms: &Terms,
     outcomes: &str,
 ) -> io::Result<()> {
-    let Some(policy) = policy_for(terms.policy, planned) else {
-        return println!(rt; "no policy for assertion {number}");
-    };
     let half = planned.assertion.half();
     let top = planned.assertion.top();
     let first_bet = planned.first_bet;
     println!(rt; "assertion {number}: half {half}, top {top}, first bet {first_bet}")?;
-    let mut held = Record::start(planned.assertion, policy);
+    let mut held = Record::start(planned.assertion, first_policy(planned, terms.policy));
     let wealth = held.wealth;
     let peak = held.peak;
     let risk = held.risk();

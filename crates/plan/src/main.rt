@@ -3,7 +3,6 @@
 
 mod outline;
 
-use bounded::List;
 use intake::memory::Memory;
 use intake::read_file;
 use setup::read::read_setup;
@@ -12,18 +11,11 @@ use std::io;
 /// Reads the bytes as a setup, and prints its plan or its fault.
 fn plan(rt: &HostRuntime, file: &[u8]) -> io::Result<()> {
     let mut memory = Memory::blank();
-    let mut batches = List::over(&mut memory.batches);
-    let mut contests = List::over(&mut memory.contests);
-    let mut candidates = List::over(&mut memory.candidates);
-    match read_setup(file, &mut batches, &mut contests, &mut candidates) {
+    let (mut lists, mut planned) = memory.lists();
+    match read_setup(file, &mut lists) {
         Ok(setup) => {
-            outline::print_terms(rt, &setup, batches.items())?;
-            outline::print_contests(
-                rt,
-                contests.items(),
-                candidates.items(),
-                &mut memory.planned,
-            )
+            outline::print_terms(rt, &setup, lists.batches.items())?;
+            outline::print_contests(rt, &lists, &mut planned)
         }
         Err(fault) => println!(rt; "{fault}"),
     }

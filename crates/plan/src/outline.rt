@@ -1,8 +1,9 @@
 //! The lines of a plan.
 use assertion::{Assertion, Pair, Planned, Share, list_assertions};
-use ballot::{Batch, Candidate, Contest};
+use ballot::{Batch, Candidate, Contest, all_votes};
 use bounded::List;
 use names::{KindName, Many, Name};
+use setup::lists::Lists;
 use setup::setup::{PolicyChoice, Setup};
 use std::io;
 
@@ -59,10 +60,7 @@ fn print_pair(rt: &HostRuntime, pair: &Pair, candidates: &[Candidate]) -> io::Re
 
 fn print_share(rt: &HostRuntime, share: &Share, candidates: &[Candidate]) -> io::Result<()> {
     print_candidate(rt, candidates, share.winner)?;
-    let mut all: u64 = 0;
-    for candidate in candidates {
-        all = all.saturating_add(u64::from(candidate.votes));
-    }
+    let all = all_votes(candidates);
     let p = share.p;
     let q = share.q;
     print!(rt; " of {all} over {p}/{q}")
@@ -116,16 +114,14 @@ fn print_contest(
 /// Every contest, with its candidates from the front of those that the contests before it left.
 pub(crate) fn print_contests(
     rt: &HostRuntime,
-    contests: &[Contest],
-    candidates: &[Candidate],
-    memory: &mut [Planned],
+    lists: &Lists<'_>,
+    planned: &mut List<'_, Planned>,
 ) -> io::Result<()> {
-    let mut planned = List::over(memory);
-    if let Err(refusal) = list_assertions(contests, candidates, &mut planned) {
-        let number = refusal.number();
-        return println!(rt; "refused {number}");
+    let contests = lists.contests.items();
+    let mut left = lists.candidates.items();
+    if let Err(refusal) = list_assertions(contests, left, planned) {
+        return println!(rt; "{refusal}");
     }
-    let mut left = candidates;
     for (number, contest) in contests.iter().enumerate() {
         let c = (contest.candidates as usize).min(left.len());
         let (own, rest) = left.split_at(c);

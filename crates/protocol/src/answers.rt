@@ -9,6 +9,7 @@ const LONGEST: usize = 256;
 
 /// The lines of a verdict or a close; other answers have none.
 fn print_answer(rt: &HostRuntime, answer: &Answer) -> io::Result<()> {
+    // A report's lines go into a buffer that the caller lends, of fixed size.
     let mut line = [0; LONGEST];
     let written = match answer {
         Answer::Finding(verdict) => report_verdict(verdict, &mut line),
@@ -16,24 +17,16 @@ fn print_answer(rt: &HostRuntime, answer: &Answer) -> io::Result<()> {
         _ => Ok(0),
     };
     match written {
-        Ok(length) => match line.get(0..length) {
-            Some(bytes) => rt.stdout().write_all(bytes),
-            None => Ok(()),
-        },
+        Ok(length) => rt.stdout().write_all(line.get(..length).unwrap_or(&[])),
         // No answer has more lines than fit in the buffer.
-        Err(refusal) => {
-            let number = refusal.number();
-            println!(rt; "refused {number}")
-        }
+        Err(refusal) => println!(rt; "{refusal}"),
     }
 }
 
 /// The lines of the first `count` answers, in their order.
 pub(crate) fn print_answers(rt: &HostRuntime, answers: &[Answer], count: usize) -> io::Result<()> {
-    for (i, answer) in answers.iter().enumerate() {
-        if i < count {
-            print_answer(rt, answer)?;
-        }
+    for answer in answers.iter().take(count) {
+        print_answer(rt, answer)?;
     }
     Ok(())
 }

@@ -5,28 +5,23 @@ mod answers;
 mod records;
 
 use answers::print_answers;
-use ballot::{Candidate, Contest};
-use bounded::List;
 use calls::{Answer, open};
 use intake::memory::Memory;
 use intake::read_file;
 use records::blank_records;
 use refusal::{Fault, File};
 use replay::replay;
+use setup::lists::Lists;
 use setup::read::read_setup;
 use setup::setup::Setup;
 use std::io;
 
 /// Opens an accepted setup, follows the draws file and prints its answers, then its fault if it has
 /// one.
-fn print_draws(
-    rt: &HostRuntime,
-    setup: Setup,
-    contests: &[Contest],
-    candidates: &[Candidate],
-    draws: &[u8],
-) -> io::Result<()> {
+fn print_draws(rt: &HostRuntime, setup: Setup, lists: &Lists<'_>, draws: &[u8]) -> io::Result<()> {
     let mut records = blank_records();
+    let contests = lists.contests.items();
+    let candidates = lists.candidates.items();
     let audit = match open(setup, contests, candidates, &mut records) {
         Ok(audit) => audit,
         Err(refused) => {
@@ -50,11 +45,9 @@ fn print_draws(
 /// Prints the audit of a setup file and a draws file.
 fn print_audit(rt: &HostRuntime, setup: &[u8], draws: &[u8]) -> io::Result<()> {
     let mut memory = Memory::blank();
-    let mut batches = List::over(&mut memory.batches);
-    let mut contests = List::over(&mut memory.contests);
-    let mut candidates = List::over(&mut memory.candidates);
-    match read_setup(setup, &mut batches, &mut contests, &mut candidates) {
-        Ok(setup) => print_draws(rt, setup, contests.items(), candidates.items(), draws),
+    let (mut lists, _) = memory.lists();
+    match read_setup(setup, &mut lists) {
+        Ok(setup) => print_draws(rt, setup, &lists, draws),
         Err(fault) => println!(rt; "{fault}"),
     }
 }

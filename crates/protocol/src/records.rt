@@ -1,15 +1,10 @@
 //! Memory for the records of an audit.
-use assertion::{Assertion, Share};
+use assertion::{Assertion, Planned};
+use ballot::limits::ASSERTIONS;
 use betting::{ChosenPolicy, Fixed, Record};
 
 /// As many records as there can be assertions, none of them in use.
-pub(crate) fn blank_records() -> [Record<Assertion, ChosenPolicy>; 256] {
-    let share = Share {
-        contest: 0,
-        winner: 0,
-        p: 1,
-        q: 2,
-    };
+pub(crate) fn blank_records() -> [Record<Assertion, ChosenPolicy>; ASSERTIONS as usize] {
     let policy = ChosenPolicy::Fixed(Fixed { bet: 0 });
-    [Record::start(Assertion::Share(share), policy); 256]
+    [Record::start(Planned::BLANK.assertion, policy); ASSERTIONS as usize]
 }

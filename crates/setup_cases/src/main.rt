@@ -2,9 +2,11 @@
 //! Then the example, into lists with just enough places, and with one place too few.
 #![tactic(auto)]
 
+use ballot::limits::{BATCHES, CONTESTS};
 use bounded::List;
-use intake::memory::Memory;
+use intake::memory::{CANDIDATES, Memory};
 use intake::read_file;
+use setup::lists::Lists;
 use setup::read::read_setup;
 use std::{fs, io};
 
@@ -17,18 +19,20 @@ struct Places {
 }
 
 const ENOUGH: Places = Places {
-    batches: 200,
-    contests: 8,
-    candidates: 256,
+    batches: BATCHES,
+    contests: CONTESTS,
+    candidates: CANDIDATES,
 };
 
 /// What the file is answered, into lists of so many places.
 fn judge(rt: &HostRuntime, case: &str, file: &[u8], places: Places) -> io::Result<()> {
     let mut memory = Memory::blank();
-    let mut batches = List::over(&mut memory.batches[0..places.batches.min(200)]);
-    let mut contests = List::over(&mut memory.contests[0..places.contests.min(8)]);
-    let mut candidates = List::over(&mut memory.candidates[0..places.candidates.min(256)]);
-    match read_setup(file, &mut batches, &mut contests, &mut candidates) {
+    let mut lists = Lists {
+        batches: List::over(&mut memory.batches[0..places.batches.min(BATCHES)]),
+        contests: List::over(&mut memory.contests[0..places.contests.min(CONTESTS)]),
+        candidates: List::over(&mut memory.candidates[0..places.candidates.min(CANDIDATES)]),
+    };
+    match read_setup(file, &mut lists) {
         Ok(_) => println!(rt; "{case}\taccepted"),
         Err(fault) => println!(rt; "{case}\t{fault}"),
     }
