@@ -22,11 +22,8 @@ pub fn read_file(rt: &HostRuntime, path: &str) -> io::Result<Option<Vec<u8>>>
             // One byte more than the limit is enough to see that there are too many.
             file.take(LIMIT as u64 + 1).read_to_end(&mut bytes)?;
         }
-        Err(e) => {
-            if e.kind() != ErrorKind::NotFound {
-                return Err(e);
-            }
-        }
+        Err(e) if e.kind() == ErrorKind::NotFound => {}
+        Err(e) => return Err(e),
     }
     if bytes.len() > LIMIT {
         return Ok(None);

@@ -45,7 +45,7 @@ module _ (ls : HeldLists) (file : List ℕ) where
   read_by s a t (inr h) =
       let f : ◌≡◌ {A = Result Setup Fault} (Err (refused_fault (length file) t.rest h.0)) (Ok s) =
       sym (ap (λ (o : Outcome). (emptied_where_refused o.answer o.lists).answer) h.1) ∙ a in
-      absurd (let z : ◌≡◌ {A = ℕ} 0 1 = cc in omega arith)
+      absurd (cc)
 
   refused_by : (f : Fault) → (reading ls file).answer ≡ Err f →
       (t : Traced (length file) (following (without_items ls) file) nothing_read (without_items ls) file) → Ended t →
@@ -54,7 +54,7 @@ module _ (ls : HeldLists) (file : List ℕ) where
   refused_by f a t (inl h) =
       let g : ◌≡◌ {A = Result Setup Fault} (Ok (setup_of t.progress t.lists)) (Err f) =
       sym (ap (λ (o : Outcome). (emptied_where_refused o.answer o.lists).answer) h.2) ∙ a in
-      absurd (let z : ◌≡◌ {A = ℕ} 0 1 = cc in omega arith)
+      absurd (cc)
   refused_by f a t (inr h) =
       let g : ◌≡◌ {A = Result Setup Fault} (Err (refused_fault (length file) t.rest h.0)) (Err f) =
       sym (ap (λ (o : Outcome). (emptied_where_refused o.answer o.lists).answer) h.1) ∙ a in

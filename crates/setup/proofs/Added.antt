@@ -1,5 +1,5 @@
 -- Commands that are followed add their items to the lists, one after the other.
-use Rattle.std.proofs.Common.{◌≡◌, ℕ, ◌<◌, Bool, true, false, cond, List, [], ◌∷◌, ◌++◌, length, drop, Some, None, Ok, Err, Option, Result, sym, refl, ap, ◌∙◌, arith, length-append, length-drop, ltb-true}
+use Rattle.std.proofs.Common.{◌≡◌, ◌<◌, Bool, true, false, cond, List, [], ◌∷◌, ◌++◌, length, drop, Some, None, Ok, Err, Option, sym, refl, ap, ◌∙◌, arith, length-append, length-drop, ltb-true}
 use Rattle.std.proofs.lemmas.List.{append_assoc, append-nil, flat_map_more}
 use Rattle.std.specs.List.{flat_map}
 use Rattle.std.specs.Option.{option_to_list}
@@ -19,10 +19,6 @@ use Rattle.setup.proofs.Leads.{Leads, here, then}
 
 -- ---- what was admitted
 
--- A refusal is no answer.
-no_answer : {A : Type 0} {p : Progress} {e : Refusal} → ◌≡◌ {A = Result Progress Refusal} (Err e) (Ok p) → A
-no_answer h = absurd (let z : ◌≡◌ {A = ℕ} 0 1 = cc in omega arith)
-
 pub record Admitted {T : Type 0} (o : Option Refusal) (xs memory : List T) (p q : Progress) : Type 0 where
   pub unopposed : o ≡ None
   pub place : length xs < length memory
@@ -36,11 +32,11 @@ room_is_place xs memory h =
 by_room : {T : Type 0} (xs memory : List T) (p q : Progress) (b : Bool) → has_room (filled xs memory) ≡ b →
     cond b (Ok p) (Err no.NoRoom) ≡ Ok q → Admitted {T = T} None xs memory p q
 by_room xs memory p q true r a = record { unopposed = refl; place = room_is_place xs memory r; same = cc }
-by_room xs memory p q false r a = no_answer a
+by_room xs memory p q false r a = absurd (cc)
 
 pub admitted : {T : Type 0} (o : Option Refusal) (xs memory : List T) (p q : Progress) → admits o (filled xs memory) p ≡ Ok q →
     Admitted o xs memory p q
-admitted (Some e) xs memory p q a = no_answer a
+admitted (Some e) xs memory p q a = absurd (cc)
 admitted None xs memory p q a = by_room xs memory p q (has_room (filled xs memory)) refl a
 
 pub item_added : {T : Type 0} (o : Option Refusal) (xs memory : List T) (p q : Progress) (x : T) → Admitted o xs memory p q →
@@ -62,7 +58,7 @@ added_contest ls bs xs cs p q (Some x) a =
     let g = item_added k xs ls.contests.memory (after_contest p x) q x (admitted k xs ls.contests.memory (after_contest p x) q a) in
     simp append-nil
     (ap (λ (z : Held Contest). record { batches = filled bs ls.batches.memory; contests = z; candidates = filled cs ls.candidates.memory }) g)
-added_contest ls bs xs cs p q None a = no_answer a
+added_contest ls bs xs cs p q None a = absurd (cc)
 
 added : (ls : HeldLists) (bs : List Batch) (xs : List Contest) (cs : List Candidate) (p q : Progress) (m : Cmd) →
     (step p (lists_with ls bs xs cs) m).answer ≡ Ok q →
@@ -82,22 +78,19 @@ added ls bs xs cs p q (candidate name votes) a =
     simp append-nil
     (ap (λ (z : Held Candidate). record { batches = filled bs ls.batches.memory; contests = filled xs ls.contests.memory; candidates = z }) g)
 added ls bs xs cs p q opens a = nothing_added ls bs xs cs
-added ls bs xs cs p q (entry place found marks) a = no_answer a
-added ls bs xs cs p q verdict a = no_answer a
-added ls bs xs cs p q escalate a = no_answer a
-added ls bs xs cs p q (count place found marks) a = no_answer a
-added ls bs xs cs p q close a = no_answer a
-
-joined_push : {X A : Type 0} (f : X → List A) (xs : List X) (x : X) → flat_map f xs ++ f x ≡ flat_map f (xs ++ x ∷ [])
-joined_push f xs x = flat_map_more f [] xs x
+added ls bs xs cs p q (entry place found marks) a = absurd (cc)
+added ls bs xs cs p q verdict a = absurd (cc)
+added ls bs xs cs p q escalate a = absurd (cc)
+added ls bs xs cs p q (count place found marks) a = absurd (cc)
+added ls bs xs cs p q close a = absurd (cc)
 
 after_one : (ls : HeldLists) (front : List Cmd) (m : Cmd) →
     lists_with ls (flat_map (λ k. (adds k).batches) front ++ (adds m).batches) (flat_map (λ k. (adds k).contests) front ++ (adds m).contests)
     (flat_map (λ k. (adds k).candidates) front ++ (adds m).candidates) ≡ lists_after ls (front ++ m ∷ [])
 after_one ls front m =
-    let x = joined_push (λ k. (adds k).batches) front m in
-    let y = joined_push (λ k. (adds k).contests) front m in
-    let z = joined_push (λ k. (adds k).candidates) front m in
+    let x = flat_map_more (λ k. (adds k).batches) [] front m in
+    let y = flat_map_more (λ k. (adds k).contests) [] front m in
+    let z = flat_map_more (λ k. (adds k).candidates) [] front m in
     cc
 
 -- Commands that were followed, after those in front.

@@ -3,7 +3,6 @@ use Rattle.std.proofs.Common.{◌≡◌, ℕ, ◌+◌, ◌-◌, ◌*◌, ◌<◌
 use Rattle.std.proofs.lemmas.List.{append_assoc, append-nil, length_push, map_push, take_all, drop_all, take-append-le, drop-append-le, length-take, drop_at}
 use Rattle.std.proofs.ByRecursion.{All-push}
 use Rattle.std.proofs.lemmas.List.Sums.{sum_by_push}
-use Rattle.std.proofs.lemmas.Bool.{false≢true}
 use Rattle.std.proofs.lemmas.Bool.Decides.{nat_tests}
 use Rattle.std.specs.List.{AllByRecursion}
 use Rattle.refusal.specs.declared.Refusal.{Refusal}
@@ -90,15 +89,8 @@ module _ {p' q : Progress} {l mid : HeldLists} {s : Stepped} (e : s ≡ record {
 
 -- ---- what no objection tells
 
-never : {A : Type 0} → ◌≡◌ {A = ℕ} 0 1 → A
-never z = absurd (omega arith)
-
--- A test that came out false did not come out true.
-no_way : {A : Type 0} → false ≡ true → A
-no_way e = absurd (false≢true e)
-
 cond_none : (b : Bool) (e : Refusal) (o : Option Refusal) → cond b (Some e) o ≡ None → (b ≡ false) × (o ≡ None)
-cond_none true e o h = never (cc)
+cond_none true e o h = absurd (cc)
 cond_none false e o h = (refl, h)
 
 batch_facts : (k n : ℕ) (b : Batch) → batch_objection k n b ≡ None → (1 ≤ b.cards) × (k < 200) × (n + b.cards ≤ 65535)
@@ -118,12 +110,12 @@ PolicySays p policy weight = PolicyFits p × (policy_number p ≡ policy) × (we
 policy_by : (policy weight : ℕ) (p : PolicyChoice) (a b : Bool) → (eqb policy 1 && eqb weight 0) ≡ a → (eqb policy 2 && within 1 1000 weight) ≡ b →
     cond a (Some Fixed) (cond b (Some (Shrinking weight)) None) ≡ Some p → PolicySays p policy weight
 policy_by policy weight Fixed true b e f h = (tt, grind (arith, nat_tests), grind (arith, nat_tests))
-policy_by policy weight (Shrinking w) true b e f h = never (cc)
-policy_by policy weight Fixed false true e f h = never (cc)
+policy_by policy weight (Shrinking w) true b e f h = absurd (cc)
+policy_by policy weight Fixed false true e f h = absurd (cc)
 policy_by policy weight (Shrinking w) false true e f h =
     let same : w ≡ weight = cc in
     ((grind (arith, nat_tests), grind (arith, nat_tests)), grind (arith, nat_tests), same)
-policy_by policy weight p false false e f h = never (cc)
+policy_by policy weight p false false e f h = absurd (cc)
 
 record TermsSaid (r d policy weight : ℕ) (t : Terms) : Type 0 where
   fits : TermsFit t
@@ -143,13 +135,13 @@ terms_by r d policy weight t p true k e h =
       };
       command = let x = k.1 in let y = k.2 in cc;
     })
-terms_by r d policy weight t p false k e h = never (cc)
+terms_by r d policy weight t p false k e h = absurd (cc)
 
 terms_facts : (r d policy weight : ℕ) (t : Terms) (o : Option PolicyChoice) → policy_from policy weight ≡ o →
     terms_with r d o ≡ Some t → TermsSaid r d policy weight t
 terms_facts r d policy weight t (Some p) e h =
     terms_by r d policy weight t p (within 10 500 r && within 1 20000 d) (policy_by policy weight p _ _ refl refl e) refl h
-terms_facts r d policy weight t None e h = never (cc)
+terms_facts r d policy weight t None e h = absurd (cc)
 
 votes_were_within : (k : Kind) (seats n votes : ℕ) → votes_within k seats n votes ≡ true → VotesFit k seats n votes
 votes_were_within Plurality seats n votes h = leb-true votes (seats * n) h
@@ -160,8 +152,8 @@ slate_by : (n : ℕ) (x : Contest) (cs : List Candidate) (a b : Bool) → votes_
     cond {A = Option Refusal} a (cond b None (Some no.NoWinners)) (Some no.TooManyVotes) ≡ None →
     VotesFit x.kind x.seats n (all_votes cs) × (has_winners x cs ≡ true)
 slate_by n x cs true true e f h = (votes_were_within x.kind x.seats n (all_votes cs) e, f)
-slate_by n x cs true false e f h = never (cc)
-slate_by n x cs false b e f h = never (cc)
+slate_by n x cs true false e f h = absurd (cc)
+slate_by n x cs false b e f h = absurd (cc)
 
 slate_facts : (n : ℕ) (x : Contest) (cs : List Candidate) → slate_objection n x cs ≡ None →
     VotesFit x.kind x.seats n (all_votes cs) × (has_winners x cs ≡ true)
@@ -259,7 +251,7 @@ module _ (ls : HeldLists) (q : Progress) (mid : HeldLists) where
   known_terms bs r d policy weight None o fit place e =
       let a : ◌≡◌ {A = Result Progress Refusal} (Err no.BadTerms) (Ok q) =
       sym (ap (after_terms (made at.Batches (cards_in bs) nothing_read.terms 0 nothing_read.contest 0)) o) ∙ ap (λ (z : Stepped). z.answer) e in
-      never (cc)
+      absurd (cc)
 
   known_contest : (bs : List Batch) (t : Terms) (xs : List Contest) (cs : List Candidate) (x : Contest) (ph : Phase) (kind c k u v : ℕ) (o : Option Contest) →
       contest_from kind c k u v ≡ o → Head ls bs t → Body ls (cards_in bs) xs cs →
@@ -294,7 +286,7 @@ module _ (ls : HeldLists) (q : Progress) (mid : HeldLists) where
   known_contest bs t xs cs x ph kind c k u v None o hd bd e =
       let a : ◌≡◌ {A = Result Progress Refusal} (Err no.BadContest) (Ok q) =
       ap (λ (z : Stepped). z.answer) (sym (ap (step_contest (made ph (cards_in bs) t (assertions_in xs) x 0) (lists_with ls bs xs cs)) o) ∙ e) in
-      never (cc)
+      absurd (cc)
 
   -- the commands of a contest with one candidate more
   own_commands : (bs : List Batch) (t : Terms) (xs : List Contest) (cs : List Candidate) (x : Contest) (own : List Candidate) (c : Candidate) →
@@ -393,62 +385,62 @@ module _ (ls : HeldLists) (q : Progress) (mid : HeldLists) where
   from_start : (m : Cmd) → allowed at.Start (code m) ≡ true →
       step nothing_read (lists_with ls [] [] []) m ≡ record { answer = Ok q; lists = mid } → Known ls q mid (m ∷ [])
   from_start (batch name cards) w e = known_batch [] at.Start name cards tt e
-  from_start (terms r d policy weight) w e = no_way w
-  from_start (contest kind c k u v) w e = no_way w
-  from_start (candidate name votes) w e = no_way w
-  from_start opens w e = no_way w
-  from_start (entry place found marks) w e = no_way w
-  from_start verdict w e = no_way w
-  from_start escalate w e = no_way w
-  from_start (count place found marks) w e = no_way w
-  from_start close w e = no_way w
+  from_start (terms r d policy weight) w e = absurd (cc)
+  from_start (contest kind c k u v) w e = absurd (cc)
+  from_start (candidate name votes) w e = absurd (cc)
+  from_start opens w e = absurd (cc)
+  from_start (entry place found marks) w e = absurd (cc)
+  from_start verdict w e = absurd (cc)
+  from_start escalate w e = absurd (cc)
+  from_start (count place found marks) w e = absurd (cc)
+  from_start close w e = absurd (cc)
 
   from_batches : (bs : List Batch) → BatchesFit bs → length bs ≤ length ls.batches.memory → (m : Cmd) → allowed at.Batches (code m) ≡ true →
       step (made at.Batches (cards_in bs) nothing_read.terms 0 nothing_read.contest 0) (lists_with ls bs [] []) m ≡ record { answer = Ok q; lists = mid } →
       Known ls q mid (map batch_command bs ++ (m ∷ []))
   from_batches bs fit place' (batch name cards) w e = known_batch bs at.Batches name cards fit.none_empty e
   from_batches bs fit place' (terms r d policy weight) w e = known_terms bs r d policy weight (terms_from r d policy weight) refl fit place' e
-  from_batches bs fit place' (contest kind c k u v) w e = no_way w
-  from_batches bs fit place' (candidate name votes) w e = no_way w
-  from_batches bs fit place' opens w e = no_way w
-  from_batches bs fit place' (entry place found marks) w e = no_way w
-  from_batches bs fit place' verdict w e = no_way w
-  from_batches bs fit place' escalate w e = no_way w
-  from_batches bs fit place' (count place found marks) w e = no_way w
-  from_batches bs fit place' close w e = no_way w
+  from_batches bs fit place' (contest kind c k u v) w e = absurd (cc)
+  from_batches bs fit place' (candidate name votes) w e = absurd (cc)
+  from_batches bs fit place' opens w e = absurd (cc)
+  from_batches bs fit place' (entry place found marks) w e = absurd (cc)
+  from_batches bs fit place' verdict w e = absurd (cc)
+  from_batches bs fit place' escalate w e = absurd (cc)
+  from_batches bs fit place' (count place found marks) w e = absurd (cc)
+  from_batches bs fit place' close w e = absurd (cc)
 
   from_terms : (bs : List Batch) (t : Terms) → Head ls bs t → (m : Cmd) → allowed at.Terms (code m) ≡ true →
       step (made at.Terms (cards_in bs) t 0 nothing_read.contest 0) (lists_with ls bs [] []) m ≡ record { answer = Ok q; lists = mid } →
       Known ls q mid (head bs t [] ++ (m ∷ []))
-  from_terms bs t hd (batch name cards) w e = no_way w
-  from_terms bs t hd (terms r d policy weight) w e = no_way w
+  from_terms bs t hd (batch name cards) w e = absurd (cc)
+  from_terms bs t hd (terms r d policy weight) w e = absurd (cc)
   from_terms bs t hd (contest kind c k u v) w e =
       known_contest bs t [] [] nothing_read.contest at.Terms kind c k u v (contest_from kind c k u v) refl hd
       (record { stand = refl; few = omega arith; assertions = omega arith; contests_placed = omega arith; candidates_placed = omega arith }) e
-  from_terms bs t hd (candidate name votes) w e = no_way w
-  from_terms bs t hd opens w e = no_way w
-  from_terms bs t hd (entry place found marks) w e = no_way w
-  from_terms bs t hd verdict w e = no_way w
-  from_terms bs t hd escalate w e = no_way w
-  from_terms bs t hd (count place found marks) w e = no_way w
-  from_terms bs t hd close w e = no_way w
+  from_terms bs t hd (candidate name votes) w e = absurd (cc)
+  from_terms bs t hd opens w e = absurd (cc)
+  from_terms bs t hd (entry place found marks) w e = absurd (cc)
+  from_terms bs t hd verdict w e = absurd (cc)
+  from_terms bs t hd escalate w e = absurd (cc)
+  from_terms bs t hd (count place found marks) w e = absurd (cc)
+  from_terms bs t hd close w e = absurd (cc)
 
   from_contest : (bs : List Batch) (t : Terms) (xs : List Contest) (cs : List Candidate) (x : Contest) (own : List Candidate) → Head ls bs t →
       Begun ls (cards_in bs) xs cs x own → (m : Cmd) → allowed at.Candidates (code m) ≡ true →
       step (made at.Candidates (cards_in bs) t (assertions_in xs + assertion_count x) x (length own)) (lists_with ls bs (xs ++ x ∷ []) (cs ++ own)) m
       ≡ record { answer = Ok q; lists = mid } →
       Known ls q mid (head bs t (contest_commands xs cs ++ (contest_command x ∷ map candidate_command own)) ++ (m ∷ []))
-  from_contest bs t xs cs x own hd bg (batch name cards) w e = no_way w
-  from_contest bs t xs cs x own hd bg (terms r d policy weight) w e = no_way w
-  from_contest bs t xs cs x own hd bg (contest kind c k u v) w e = no_way w
+  from_contest bs t xs cs x own hd bg (batch name cards) w e = absurd (cc)
+  from_contest bs t xs cs x own hd bg (terms r d policy weight) w e = absurd (cc)
+  from_contest bs t xs cs x own hd bg (contest kind c k u v) w e = absurd (cc)
   from_contest bs t xs cs x own hd bg (candidate name votes) w e =
       known_candidate bs t xs cs x own name votes (leb x.candidates (length own + 1)) refl hd bg e
-  from_contest bs t xs cs x own hd bg opens w e = no_way w
-  from_contest bs t xs cs x own hd bg (entry place found marks) w e = no_way w
-  from_contest bs t xs cs x own hd bg verdict w e = no_way w
-  from_contest bs t xs cs x own hd bg escalate w e = no_way w
-  from_contest bs t xs cs x own hd bg (count place found marks) w e = no_way w
-  from_contest bs t xs cs x own hd bg close w e = no_way w
+  from_contest bs t xs cs x own hd bg opens w e = absurd (cc)
+  from_contest bs t xs cs x own hd bg (entry place found marks) w e = absurd (cc)
+  from_contest bs t xs cs x own hd bg verdict w e = absurd (cc)
+  from_contest bs t xs cs x own hd bg escalate w e = absurd (cc)
+  from_contest bs t xs cs x own hd bg (count place found marks) w e = absurd (cc)
+  from_contest bs t xs cs x own hd bg close w e = absurd (cc)
 
   known_opening : (bs : List Batch) (t : Terms) (xs : List Contest) (cs : List Candidate) (x : Contest) → Head ls bs t → Body ls (cards_in bs) xs cs →
       1 ≤ length xs →
@@ -474,17 +466,17 @@ module _ (ls : HeldLists) (q : Progress) (mid : HeldLists) where
       1 ≤ length xs → (m : Cmd) → allowed at.Contests (code m) ≡ true →
       step (made at.Contests (cards_in bs) t (assertions_in xs) x 0) (lists_with ls bs xs cs) m ≡ record { answer = Ok q; lists = mid } →
       Known ls q mid (head bs t (contest_commands xs cs) ++ (m ∷ []))
-  from_between bs t xs cs x hd bd some (batch name cards) w e = no_way w
-  from_between bs t xs cs x hd bd some (terms r d policy weight) w e = no_way w
+  from_between bs t xs cs x hd bd some (batch name cards) w e = absurd (cc)
+  from_between bs t xs cs x hd bd some (terms r d policy weight) w e = absurd (cc)
   from_between bs t xs cs x hd bd some (contest kind c k u v) w e =
       known_contest bs t xs cs x at.Contests kind c k u v (contest_from kind c k u v) refl hd bd e
-  from_between bs t xs cs x hd bd some (candidate name votes) w e = no_way w
+  from_between bs t xs cs x hd bd some (candidate name votes) w e = absurd (cc)
   from_between bs t xs cs x hd bd some opens w e = known_opening bs t xs cs x hd bd some e
-  from_between bs t xs cs x hd bd some (entry place found marks) w e = no_way w
-  from_between bs t xs cs x hd bd some verdict w e = no_way w
-  from_between bs t xs cs x hd bd some escalate w e = no_way w
-  from_between bs t xs cs x hd bd some (count place found marks) w e = no_way w
-  from_between bs t xs cs x hd bd some close w e = no_way w
+  from_between bs t xs cs x hd bd some (entry place found marks) w e = absurd (cc)
+  from_between bs t xs cs x hd bd some verdict w e = absurd (cc)
+  from_between bs t xs cs x hd bd some escalate w e = absurd (cc)
+  from_between bs t xs cs x hd bd some (count place found marks) w e = absurd (cc)
+  from_between bs t xs cs x hd bd some close w e = absurd (cc)
 
   known_step : {p : Progress} {l : HeldLists} {ms : List Cmd} → Known ls p l ms → (m : Cmd) → opened p.phase ≡ false → allowed p.phase (code m) ≡ true →
       step p l m ≡ record { answer = Ok q; lists = mid } → Known ls q mid (ms ++ (m ∷ []))
@@ -493,7 +485,7 @@ module _ (ls : HeldLists) (q : Progress) (mid : HeldLists) where
   known_step (at_terms bs t hd) m o w e = from_terms bs t hd m w e
   known_step (in_contest bs t xs cs x own hd bg) m o w e = from_contest bs t xs cs x own hd bg m w e
   known_step (between bs t xs cs x hd bd some) m o w e = from_between bs t xs cs x hd bd some m w e
-  known_step (at_opening d x w' h) m o w e = no_way (sym o)
+  known_step (at_opening d x w' h) m o w e = absurd (cc)
 
 pub known_along : (ls : HeldLists) (p q : Progress) (l mid : HeldLists) (front ms : List Cmd) → Known ls p l front → Leads p l ms q mid →
     Known ls q mid (front ++ ms)
@@ -512,10 +504,10 @@ pub record Opened (ls : HeldLists) (p : Progress) (l : HeldLists) (ms : List Cmd
   pub commands_are : ms ≡ commands setup
 
 pub known_opened : (ls : HeldLists) (p : Progress) (l : HeldLists) (ms : List Cmd) → Known ls p l ms → opened p.phase ≡ true → Opened ls p l ms
-known_opened ls p l ms at_start o = no_way o
-known_opened ls p l ms (in_batches bs fit placed) o = no_way o
-known_opened ls p l ms (at_terms bs t hd) o = no_way o
-known_opened ls p l ms (in_contest bs t xs cs x own hd bg) o = no_way o
-known_opened ls p l ms (between bs t xs cs x hd bd some) o = no_way o
+known_opened ls p l ms at_start o = absurd (cc)
+known_opened ls p l ms (in_batches bs fit placed) o = absurd (cc)
+known_opened ls p l ms (at_terms bs t hd) o = absurd (cc)
+known_opened ls p l ms (in_contest bs t xs cs x own hd bg) o = absurd (cc)
+known_opened ls p l ms (between bs t xs cs x hd bd some) o = absurd (cc)
 known_opened ls p l ms (at_opening d x w h) o =
     record { setup = d; limits = w; places = h; numbers_are = refl; lists_are = refl; commands_are = refl }

@@ -21,7 +21,7 @@ use Rattle.setup.proofs.Turns.{run_on, run_err, run_end}
 
 full : {T : Type 0} (h : Held T) (x : T) (p : Progress) (e : Refusal) (b : Bool) → has_room h ≡ b →
     cond b (Ok p) (Err no.NoRoom) ≡ Err e → appended h x ≡ h
-full h x p e true r a = absurd (let z : ◌≡◌ {A = ℕ} 0 1 = cc in omega arith)
+full h x p e true r a = absurd (cc)
 full h x p e false r a = simp r
 
 item_stays : {T : Type 0} (o : Option Refusal) (h : Held T) (x : T) (p : Progress) (e : Refusal) → admits o h p ≡ Err e →

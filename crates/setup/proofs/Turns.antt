@@ -1,6 +1,5 @@
 -- The reading of a file, turn by turn.
-use Rattle.std.proofs.Common.{◌≡◌, ℕ, zero, suc, ◌<◌, true, false, List, length, Ok, Err, Result, IsErrAnd, sym, refl, ap, ◌∙◌, subst, arith}
-use Rattle.std.proofs.lemmas.Result.{err_from_is_err_and}
+use Rattle.std.proofs.Common.{◌≡◌, ℕ, zero, suc, ◌<◌, true, false, List, length, Ok, Err, Result, IsErrAnd, is_ok, sym, refl, ap, ◌∙◌, subst, arith}
 use Rattle.std.specs.Borrow.{Bor}
 use Rattle.std.specs.Result.{MatchResult}
 use Rattle.refusal.specs.declared.Fault.{Fault}
@@ -66,27 +65,21 @@ module _ (n : ℕ) (o : Outcome) (p : Progress) (ls : HeldLists) (bs : List ℕ)
 
 -- A turn as the program takes it, whose answer is t, and f with a fault in place of a refusal: it is followed, or ends the reading.
 module _ (n : ℕ) (o : Outcome) (p : Progress) (ls after : HeldLists) (bs : List ℕ) where
-  pub followed_by : Reached n o p ls bs → opened p.phase ≡ false → (t : Result (Progress × Bor (List ℕ)) Refusal) (f : Result (Progress × Bor (List ℕ)) Fault) (x : Progress × Bor (List ℕ)) →
-      turned t after ≡ turn p ls bs → Shorter (length bs) t →
-      MatchResult t (λ v. f ≡ Ok v) (λ e. IsErrAnd f (λ y. y ≡ refused_fault n bs e)) → f ≡ Ok x → Reached n o x.0 after x.1.now
-  followed_by r c (Ok v) f x h s m e =
-      let k : ◌≡◌ {A = Result (Progress × Bor (List ℕ)) Fault} (Ok v) (Ok x) = sym m ∙ e in
-      let same : v ≡ x = cc in
+  pub followed_by : (t : Result (Progress × Bor (List ℕ)) Refusal) (f : Result (Progress × Bor (List ℕ)) Fault) (Q : Refusal → Type 0) →
+      Reached n o p ls bs → opened p.phase ≡ false → turned t after ≡ turn p ls bs → Shorter (length bs) t →
+      MatchResult t (λ v. f ≡ Ok v) Q → is_ok f ≡ is_ok t → (q : Progress) (rest : Bor (List ℕ)) → f ≡ Ok (q, rest) →
+      Reached n o q after rest.now
+  followed_by (Ok v) f Q r c h s m k q rest e =
+      let same : v ≡ (q, rest) = (let g : ◌≡◌ {A = Result (Progress × Bor (List ℕ)) Fault} (Ok v) (Ok (q, rest)) = sym m ∙ e in cc) in
       subst (λ (z : Progress × Bor (List ℕ)). Reached n o z.0 after z.1.now) same
       (reached_on n o p ls bs r (record { progress = v.0; rest = v.1.now }) after c (sym h) s)
-  followed_by r c (Err d) f x h s m e =
-      let g = err_from_is_err_and f m in
-      let k : ◌≡◌ {A = Result (Progress × Bor (List ℕ)) Fault} (Err g.0) (Ok x) = sym g.1 ∙ e in
-      absurd (let z : ◌≡◌ {A = ℕ} 0 1 = cc in omega arith)
+  followed_by (Err d) f Q r c h s m k q rest e = absurd (let g : true ≡ false = ap is_ok (sym e) ∙ k in cc)
 
-  pub refused_by : Reached n o p ls bs → opened p.phase ≡ false → (t : Result (Progress × Bor (List ℕ)) Refusal) (f : Result (Progress × Bor (List ℕ)) Fault) (x : Fault) →
-      turned t after ≡ turn p ls bs →
-      MatchResult t (λ v. f ≡ Ok v) (λ e. IsErrAnd f (λ y. y ≡ refused_fault n bs e)) → f ≡ Err x → outcome (Err x) after ≡ o
-  refused_by r c (Ok v) f x h m e =
-      let k : ◌≡◌ {A = Result (Progress × Bor (List ℕ)) Fault} (Ok v) (Err x) = sym m ∙ e in
-      absurd (let z : ◌≡◌ {A = ℕ} 0 1 = cc in omega arith)
-  refused_by r c (Err d) f x h m e =
-      let g = err_from_is_err_and f m in
-      let k : ◌≡◌ {A = Result (Progress × Bor (List ℕ)) Fault} (Err g.0) (Err x) = sym g.1 ∙ e in
-      let same : x ≡ refused_fault n bs d = let z : g.0 ≡ x = cc in sym z ∙ g.2 in
+  pub refused_by : (t : Result (Progress × Bor (List ℕ)) Refusal) (f : Result (Progress × Bor (List ℕ)) Fault) (Q : Refusal → Type 0) →
+      Reached n o p ls bs → opened p.phase ≡ false → turned t after ≡ turn p ls bs →
+      MatchResult t (λ v. f ≡ Ok v) Q → ((e : Refusal) → Q e → IsErrAnd f (λ y. y ≡ refused_fault n bs e)) →
+      (x : Fault) → f ≡ Err x → outcome (Err x) after ≡ o
+  refused_by (Ok v) f Q r c h m g x e = absurd (let k : ◌≡◌ {A = Result (Progress × Bor (List ℕ)) Fault} (Ok v) (Err x) = sym m ∙ e in cc)
+  refused_by (Err d) f Q r c h m g x e =
+      let same : x ≡ refused_fault n bs d = subst (λ (z : Result (Progress × Bor (List ℕ)) Fault). IsErrAnd z (λ y. y ≡ refused_fault n bs d)) e (g d m) in
       ap (λ (y : Fault). outcome (Err y) after) same ∙ sym (reached_refusal n o p ls bs r d after c (sym h))
