@@ -16,14 +16,14 @@ use Rattle.calls.specs.declared.answers.Standing.{Standing}
 use Rattle.calls.specs.declared.answers.Standing.TheVariants.{Drawing, Counting}
 use Rattle.calls.specs.declared.terms.Terms.{Terms}
 use Rattle.calls.specs.Calls.{audit_state, count_state}
-use Rattle.calls.specs.Shapes.{shown}
+use Rattle.calls.specs.Shapes.{shown_of}
 
 abbrev pub draw_call : DrawCall → Call
-draw_call (Entry x) = entry (shown x.place x.found x.card)
+draw_call (Entry x) = entry (shown_of x)
 draw_call Verdict = verdict
 
 abbrev pub count_call : CountCall → Call
-count_call (Count x) = hand_count (shown x.place x.found x.card)
+count_call (Count x) = hand_count (shown_of x)
 count_call Close = closing
 
 abbrev pub answer_of : Answer → course.Answer

@@ -1,5 +1,5 @@
 -- What each call of an audit answers and leaves, by the audit's course.
-use Rattle.std.specs.Prelude.{◌≡◌, ℕ, ◌≤◌, false, cond, List, take, Some, Ok, Err, sum, Option, Result, nat_lt}
+use Rattle.std.specs.Prelude.{◌≡◌, ℕ, ◌≤◌, false, cond, List, take, Some, None, Ok, Err, sum, Option, Result, nat_lt}
 use Rattle.std.specs.List.{AllByRecursion}
 use Rattle.refusal.specs.declared.Refusal.{Refusal}
 use Rattle.refusal.specs.declared.Refusal.TheVariants.{NoRoom}
@@ -15,6 +15,11 @@ use Rattle.course.specs.Course.Answer.{refused, taken, finding, upheld}
 use Rattle.calls.specs.declared.states.Audit.{Audit}
 use Rattle.calls.specs.declared.states.HandCount.{HandCount}
 use Rattle.calls.specs.Shapes.{OnlyFirst}
+
+-- The refusal, if there is one.
+abbrev pub refusal_in : Result Unit Refusal → Option Refusal
+refusal_in (Ok done) = None
+refusal_in (Err e) = Some e
 
 -- The answers of the calls in the words of the course.
 abbrev pub taken_or : Result Unit Refusal → Answer

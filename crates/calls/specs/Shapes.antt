@@ -2,6 +2,7 @@
 use Rattle.std.specs.Prelude.{◌≡◌, ℕ, List, take, drop, replicate}
 use Rattle.ballot.specs.declared.Card.{Card}
 use Rattle.course.specs.Terms as course
+use Rattle.calls.specs.declared.answers.Shown.{Shown}
 use Rattle.calls.specs.declared.terms.Terms.{Terms}
 
 -- One entry of the lists counts for each contest.
@@ -16,6 +17,9 @@ terms_of t = record {
 
 abbrev pub shown : ℕ → ℕ → Card → course.Shown
 shown p f x = record { place = p; found = f; card = x }
+
+abbrev pub shown_of : Shown → course.Shown
+shown_of x = shown x.place x.found x.card
 
 -- Of eight places only the first n are used; the others hold x.
 abbrev pub OnlyFirst : {X : Type 0} → ℕ → X → List X → Type 0

@@ -3,40 +3,35 @@ ghost use Rattle.std.specs.Prelude.{◌≡◌, map, length, drop};
 ghost use Rattle.betting.specs.Accounts.{account};
 ghost use Rattle.course.specs.Course.{rules_of};
 ghost use Rattle.course.specs.Course.Call.{closing, hand_count};
-ghost use Rattle.calls.specs.Calls.{called, count_state, first_refusal, KeptOnRefusal, taken_or, UpheldAlone, upheld_or};
-ghost use Rattle.calls.specs.Shapes.{shown, terms_of};
+ghost use Rattle.calls.specs.Calls.{called, count_state, first_refusal, KeptOnRefusal, refusal_in, taken_or, UpheldAlone, upheld_or};
+ghost use Rattle.calls.specs.Shapes.{shown_of, terms_of};
 
+use crate::answers::Shown;
 use crate::records::count_all;
 use crate::states::HandCount;
-use crate::terms::{contests_above, shown_refusal};
+use crate::terms::{check_shown, contests_above};
 use assorter::Assorter;
-use ballot::Card;
 use betting::{Policy, Record};
 use refusal::Refusal;
 use verdict::Closing;
 
 impl HandCount {
-    /// Why a count is refused, if it is.
-    fn count_refusal<A, P: Policy>(
+    /// Refuses a count with its first refusal.
+    fn check_count<A, P: Policy>(
         &self,
         records: &[Record<A, P>],
-        place: u16,
-        found: u8,
-        card: &Card,
-    ) -> Option<Refusal>
-        ensures { result ≡ first_refusal (terms_of self.now.terms) (length records.now) (count_state self.now (map (account P.state) records.now)) (hand_count (shown place found card.now)) }
+        shown: &Shown,
+    ) -> Result<(), Refusal>
+        ensures { refusal_in result ≡ first_refusal (terms_of self.now.terms) (length records.now) (count_state self.now (map (account P.state) records.now)) (hand_count (shown_of shown.now)) }
     {
-        let terms = self.terms;
-        if records.len() < terms.needed {
-            return Some(Refusal::NoRoom);
+        if records.len() < self.terms.needed {
+            return Err(Refusal::NoRoom);
         }
-        if let Some(refusal) = shown_refusal(&terms, place, found, card) {
-            return Some(refusal);
+        check_shown(&self.terms, shown)?;
+        if shown.place as u32 != self.counted as u32 + 1 {
+            return Err(Refusal::NotTheNextPlace);
         }
-        if place as u32 != self.counted as u32 + 1 {
-            return Some(Refusal::NotTheNextPlace);
-        }
-        None
+        Ok(())
     }
 
     /// Counts the card at the next place: each record adds the card's value to its tally, 0 for a
@@ -45,19 +40,15 @@ impl HandCount {
     pub fn count<A: Assorter + Copy, P: Policy + Copy>(
         &mut self,
         records: &mut [Record<A, P>],
-        place: u16,
-        found: u8,
-        card: &Card,
+        shown: &Shown,
     ) -> Result<(), Refusal>
-        ensures course { (count_state self.new (map (account P.state) records.new), taken_or result) ≡ called (rules_of A.Assorter P.Policy) (terms_of self.old.terms) (length records.old) (count_state self.old (map (account P.state) records.old)) (hand_count (shown place found card.now)) }
+        ensures course { (count_state self.new (map (account P.state) records.new), taken_or result) ≡ called (rules_of A.Assorter P.Policy) (terms_of self.old.terms) (length records.old) (count_state self.old (map (account P.state) records.old)) (hand_count (shown_of shown.now)) }
         ensures terms { self.new.terms ≡ self.old.terms }
         ensures beyond { drop self.old.terms.needed records.new ≡ drop self.old.terms.needed records.old }
         ensures kept { (KeptOnRefusal result self.old self.new) × (KeptOnRefusal result records.old records.new) }
     {
-        if let Some(refusal) = self.count_refusal(records, place, found, card) {
-            return Err(refusal);
-        }
-        count_all(records, self.terms.needed, found, card);
+        self.check_count(records, shown)?;
+        count_all(records, self.terms.needed, shown.found, &shown.card);
         self.counted += 1;
         Ok(())
     }
@@ -71,7 +62,7 @@ impl HandCount {
         ensures course { (count_state self.now (map (account P.state) records.now), upheld_or result) ≡ called (rules_of A.Assorter P.Policy) (terms_of self.now.terms) (length records.now) (count_state self.now (map (account P.state) records.now)) closing }
         ensures rest { UpheldAlone result }
     {
-        let terms = self.terms;
+        let terms = &self.terms;
         if records.len() < terms.needed {
             return Err(Refusal::NoRoom);
         }
@@ -81,7 +72,7 @@ impl HandCount {
         let needed = terms.needed;
         Ok(Closing {
             contests: terms.contests,
-            upheld: contests_above(&terms, &records[0..needed]),
+            upheld: contests_above(terms, &records[0..needed]),
         })
     }
 }

@@ -4,14 +4,14 @@ ghost use Rattle.betting.specs.Accounts.{account};
 ghost use Rattle.course.specs.Course.{all_settled, no_draws_left, rules_of};
 ghost use Rattle.course.specs.Course.Call.{entry, verdict};
 ghost use Rattle.verdict.specs.declared.Finding.TheVariants.{Confirm, Continue, FullHandCount};
-ghost use Rattle.calls.specs.Calls.{audit_state, called, ConfirmsByRisk, DrawsWithin, finding_or, first_refusal, KeptOnRefusal, RisksAlone, taken_or};
-ghost use Rattle.calls.specs.Shapes.{shown, terms_of};
+ghost use Rattle.calls.specs.Calls.{audit_state, called, ConfirmsByRisk, DrawsWithin, finding_or, first_refusal, KeptOnRefusal, refusal_in, RisksAlone, taken_or};
+ghost use Rattle.calls.specs.Shapes.{shown_of, terms_of};
 
+use crate::answers::Shown;
 use crate::records::{all_settled, enter_all};
 use crate::states::{Audit, HandCount};
-use crate::terms::{contest_risks, shown_refusal};
+use crate::terms::{check_shown, contest_risks};
 use assorter::Assorter;
-use ballot::Card;
 use betting::{Policy, Record};
 use refusal::Refusal;
 use verdict::{Finding, Verdict};
@@ -22,31 +22,26 @@ impl Audit {
         requires { self.now.terms.needed ≤ length records.now }
         ensures { result ≡ no_draws_left (terms_of self.now.terms) (audit_state self.now (map (account P.state) records.now)) }
     {
-        let terms = self.terms;
+        let terms = &self.terms;
         all_settled(records, terms.needed, terms.risk_limit) || self.drawn >= terms.draw_limit
     }
 
-    /// Why an entry is refused, if it is.
-    fn entry_refusal<A, P: Policy>(
+    /// Refuses an entry with its first refusal.
+    fn check_entry<A, P: Policy>(
         &self,
         records: &[Record<A, P>],
-        place: u16,
-        found: u8,
-        card: &Card,
-    ) -> Option<Refusal>
-        ensures { result ≡ first_refusal (terms_of self.now.terms) (length records.now) (audit_state self.now (map (account P.state) records.now)) (entry (shown place found card.now)) }
+        shown: &Shown,
+    ) -> Result<(), Refusal>
+        ensures { refusal_in result ≡ first_refusal (terms_of self.now.terms) (length records.now) (audit_state self.now (map (account P.state) records.now)) (entry (shown_of shown.now)) }
     {
-        let terms = self.terms;
-        if records.len() < terms.needed {
-            return Some(Refusal::NoRoom);
+        if records.len() < self.terms.needed {
+            return Err(Refusal::NoRoom);
         }
-        if let Some(refusal) = shown_refusal(&terms, place, found, card) {
-            return Some(refusal);
-        }
+        check_shown(&self.terms, shown)?;
         if self.is_spent(records) {
-            return Some(Refusal::NoDrawsLeft);
+            return Err(Refusal::NoDrawsLeft);
         }
-        None
+        Ok(())
     }
 
     /// Enters a card that was drawn: each record that isn't settled takes the card's value, 0 for a
@@ -55,20 +50,22 @@ impl Audit {
     pub fn enter<A: Assorter + Copy, P: Policy + Copy>(
         &mut self,
         records: &mut [Record<A, P>],
-        place: u16,
-        found: u8,
-        card: &Card,
+        shown: &Shown,
     ) -> Result<(), Refusal>
-        ensures course { (audit_state self.new (map (account P.state) records.new), taken_or result) ≡ called (rules_of A.Assorter P.Policy) (terms_of self.old.terms) (length records.old) (audit_state self.old (map (account P.state) records.old)) (entry (shown place found card.now)) }
+        ensures course { (audit_state self.new (map (account P.state) records.new), taken_or result) ≡ called (rules_of A.Assorter P.Policy) (terms_of self.old.terms) (length records.old) (audit_state self.old (map (account P.state) records.old)) (entry (shown_of shown.now)) }
         ensures terms { self.new.terms ≡ self.old.terms }
         ensures beyond { drop self.old.terms.needed records.new ≡ drop self.old.terms.needed records.old }
         ensures kept { (KeptOnRefusal result self.old self.new) × (KeptOnRefusal result records.old records.new) }
     {
-        if let Some(refusal) = self.entry_refusal(records, place, found, card) {
-            return Err(refusal);
-        }
-        let terms = self.terms;
-        enter_all(records, terms.needed, terms.risk_limit, found, card);
+        self.check_entry(records, shown)?;
+        let terms = &self.terms;
+        enter_all(
+            records,
+            terms.needed,
+            terms.risk_limit,
+            shown.found,
+            &shown.card,
+        );
         self.drawn += 1;
         Ok(())
     }
@@ -85,7 +82,7 @@ impl Audit {
         ensures rest { RisksAlone result }
         ensures bounded { DrawsWithin self.now.terms.draw_limit result }
     {
-        let terms = self.terms;
+        let terms = &self.terms;
         if records.len() < terms.needed {
             return Err(Refusal::NoRoom);
         }
@@ -95,7 +92,7 @@ impl Audit {
             finding: found_by(settled, self.drawn == terms.draw_limit),
             draws: self.drawn,
             contests: terms.contests,
-            risks: contest_risks(&terms, &records[0..needed]),
+            risks: contest_risks(terms, &records[0..needed]),
         })
     }
 

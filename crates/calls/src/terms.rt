@@ -5,7 +5,7 @@ mod showing;
 mod starting;
 
 pub(crate) use contests::{contest_risks, contests_above};
-pub(crate) use showing::shown_refusal;
+pub(crate) use showing::check_shown;
 pub(crate) use starting::audit_terms;
 
 /// The terms of an audit; of the lists, one entry counts for each contest.

@@ -1,22 +1,18 @@
 //! What an entry or a count may show.
-ghost use Rattle.std.specs.Prelude.{◌≡◌, ◌^◌, nat_lt};
+ghost use Rattle.std.specs.Prelude.{◌≡◌, ◌^◌, ◌≤◌, length, nat_lt};
 ghost use Rattle.course.specs.Terms.{blank, marks_fit, shown_refusal};
-ghost use Rattle.calls.specs.Shapes.{shown, terms_of};
+ghost use Rattle.calls.specs.Calls.{refusal_in};
+ghost use Rattle.calls.specs.Shapes.{shown_of, terms_of};
 
 use super::Terms;
-use ballot::Card;
+use crate::answers::Shown;
 use refusal::Refusal;
 
 /// Whether there is no mark.
-fn is_blank(marks: &[u32; 8]) -> bool
+fn is_blank(marks: &[u32]) -> bool
     ensures { result ≡ blank marks.now }
 {
-    for m in marks {
-        if *m != 0 {
-            return false;
-        }
-    }
-    true
+    marks.iter().all(|m| *m == 0)
 }
 
 /// Whether all marks are for one of so many candidates.
@@ -29,34 +25,30 @@ fn fits(marks: u32, candidates: u8) -> bool
 /// Whether each contest's marks are for its candidates, and there are none for a contest that
 /// isn't there.
 fn marks_fit(candidates: &[u8], marks: &[u32; 8]) -> bool
+    requires { length candidates.now ≤ 8 }
     ensures { result ≡ marks_fit candidates.now marks.now }
 {
-    for i in 0..8 {
-        let count = if i < candidates.len() {
-            candidates[i]
-        } else {
-            0
-        };
-        if !fits(marks[i], count) {
-            return false;
-        }
-    }
-    true
+    let (own, others) = marks.split_at(candidates.len());
+    own.iter()
+        .zip(candidates)
+        .all(|(m, count)| fits(*m, *count))
+        && is_blank(others)
 }
 
-/// The refusal for what is shown alone: the first that applies.
-pub(crate) fn shown_refusal(terms: &Terms, place: u16, found: u8, card: &Card) -> Option<Refusal>
-    ensures { result ≡ shown_refusal (terms_of terms.now) (shown place found card.now) }
+/// Refuses what is shown alone with the first refusal that applies.
+pub(crate) fn check_shown(terms: &Terms, shown: &Shown) -> Result<(), Refusal>
+    ensures { refusal_in result ≡ shown_refusal (terms_of terms.now) (shown_of shown.now) }
 {
-    if place == 0 || place > terms.cards {
-        return Some(Refusal::BadPlace);
+    if shown.place == 0 || shown.place > terms.cards {
+        return Err(Refusal::BadPlace);
     }
-    if found > 1 {
-        return Some(Refusal::BadFound);
+    if shown.found > 1 {
+        return Err(Refusal::BadFound);
     }
-    let fit = marks_fit(&terms.candidates[0..terms.contests as usize], &card.marks);
-    if !fit || found == 0 && !is_blank(&card.marks) {
-        return Some(Refusal::BadMarks);
+    let marks = &shown.card.marks;
+    let fit = marks_fit(&terms.candidates[0..terms.contests as usize], marks);
+    if !fit || shown.found == 0 && !is_blank(marks) {
+        return Err(Refusal::BadMarks);
     }
-    None
+    Ok(())
 }

@@ -1,30 +1,26 @@
-use Rattle.std.proofs.Common.{◌≡◌, get_or, sym, ◌∙◌, arith}
-use Rattle.std.proofs.lemmas.List.{get_or_past}
-use Rattle.calls.proofs.Fits.{fits_more, fits_not, fits_all}
+use Rattle.std.proofs.Common.{◌≡◌, ◌^◌, ◌&&◌, ltb, length, take, drop, sym, ap, ◌∙◌, arith, rules}
+use borrow.Author.Tests.{tests}
+use Rattle.std.proofs.lemmas.Iterator.{YieldsList-from_slice, YieldsList-from_zip}
+use Rattle.std.proofs.lemmas.Iterator.Search.{all_from_yields_List}
+use Rattle.course.specs.Terms.{blank}
+use Rattle.calls.proofs.Fits.{each_fits, fitting}
 use Rattle.calls.proofs.terms.showing.marks_fit.Goals as goal
-use Rattle.calls.proofs.terms.showing.marks_fit.Goals.{then-i-candidates, else-i-candidates}
 
-pub returns-then-not-fits : goal.returns-then-not-fits
-returns-then-not-fits c =
+pub returns-then-all : goal.returns-then-all
+returns-then-all c =
     let cs = c.args.candidates.now in
-    let i = c.loop-i.i in
-    let same : c.if-i-candidates.count ≡ get_or cs i 0 = elim c.if-i-candidates.branch [
-      | then-i-candidates w ↦ w.count-is
-      | else-i-candidates w ↦ w.count-is ∙ sym (get_or_past cs i 0 w.if-i-candidates.false)
-    ] in
-    fits_not i cs c.args.marks.now c.if-i-candidates.count (omega arith) same c.loop-i.invariant
-    c.if-not-fits.ensures
+    let ms = c.args.marks.now in
+    let each : c.all.result ≡ fitting cs ms =
+    all_from_yields_List {s = c.zip.result} (λ p. ltb p.0 (2 ^ p.1)) c.all.new.self _ c.all.result c.all.ensures.ran
+    (YieldsList-from_zip (YieldsList-from_slice {s = c.zip.result.a} (take (length cs) ms) (cc)) (YieldsList-from_slice {s = c.zip.result.b} cs (cc))) (λ x b q k. search (rules, tests)) in
+    c.is_blank.ensures ∙ ap (λ xs. blank xs) c.split_at.ensures.back
+    ∙ ap (λ b. b && blank (drop (length cs) ms)) (sym c.if-all.true ∙ each) ∙ each_fits cs ms (omega arith)
 
-pub loop-i-preserved : goal.loop-i-preserved
-loop-i-preserved c =
+pub returns-else-all : goal.returns-else-all
+returns-else-all c =
     let cs = c.args.candidates.now in
-    let i = c.loop-i.i in
-    let same : c.if-i-candidates.count ≡ get_or cs i 0 = elim c.if-i-candidates.branch [
-      | then-i-candidates w ↦ w.count-is
-      | else-i-candidates w ↦ w.count-is ∙ sym (get_or_past cs i 0 w.if-i-candidates.false)
-    ] in
-    fits_more i cs c.args.marks.now c.if-i-candidates.count (omega arith) same c.loop-i.invariant
-    c.if-not-fits.ensures
-
-pub returns : goal.returns
-returns c = fits_all c.loop-i.i c.args.candidates.now c.args.marks.now (omega arith) c.loop-i.invariant
+    let ms = c.args.marks.now in
+    let each : c.all.result ≡ fitting cs ms =
+    all_from_yields_List {s = c.zip.result} (λ p. ltb p.0 (2 ^ p.1)) c.all.new.self _ c.all.result c.all.ensures.ran
+    (YieldsList-from_zip (YieldsList-from_slice {s = c.zip.result.a} (take (length cs) ms) (cc)) (YieldsList-from_slice {s = c.zip.result.b} cs (cc))) (λ x b q k. search (rules, tests)) in
+    c.if-all.false ∙ ap (λ b. b && blank (drop (length cs) ms)) (sym c.if-all.false ∙ each) ∙ each_fits cs ms (omega arith)
