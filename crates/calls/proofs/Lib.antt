@@ -1,5 +1,6 @@
 pub mod Fronts
 pub mod Fits
+pub mod Founds
 pub mod Parts
 pub mod Refusals
 pub mod Counts

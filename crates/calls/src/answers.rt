@@ -1,4 +1,7 @@
 //! What the calls of an audit are shown and answer, and where they leave it.
+ghost use Rattle.std.specs.Prelude.{◌≡◌, option_copied};
+ghost use Rattle.calls.specs.Shapes.{found_card, shown_of};
+
 use crate::states::{Audit, HandCount};
 use ballot::Card;
 use refusal::Refusal;
@@ -10,6 +13,19 @@ pub struct Shown {
     pub place: u16,
     pub found: u8,
     pub card: Card,
+}
+
+impl Shown {
+    /// The card, if it was found.
+    pub(crate) fn found_card(&self) -> Option<&Card>
+        ensures { option_copied result ≡ found_card (shown_of self.now) }
+    {
+        if self.found == 0 {
+            None
+        } else {
+            Some(&self.card)
+        }
+    }
 }
 
 /// A call before the escalation.

@@ -48,7 +48,7 @@ impl HandCount {
         ensures kept { (KeptOnRefusal result self.old self.new) × (KeptOnRefusal result records.old records.new) }
     {
         self.check_count(records, shown)?;
-        count_all(records, self.terms.needed, shown.found, &shown.card);
+        count_all(records, self.terms.needed, shown.found_card());
         self.counted += 1;
         Ok(())
     }

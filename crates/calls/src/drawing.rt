@@ -59,13 +59,8 @@ impl Audit {
     {
         self.check_entry(records, shown)?;
         let terms = &self.terms;
-        enter_all(
-            records,
-            terms.needed,
-            terms.risk_limit,
-            shown.found,
-            &shown.card,
-        );
+        let card = shown.found_card();
+        enter_all(records, terms.needed, terms.risk_limit, card);
         self.drawn += 1;
         Ok(())
     }

@@ -1,9 +1,8 @@
 //! The first of the records that are lent: as many as an audit has assertions.
-ghost use Rattle.std.specs.Prelude.{◌≡◌, ◌≤◌, map, length, take, drop};
+ghost use Rattle.std.specs.Prelude.{◌≡◌, ◌≤◌, map, length, take, drop, option_copied};
 ghost use Rattle.betting.specs.Accounts.{account};
 ghost use Rattle.course.specs.Course.{after_count, after_entry, all_settled, rules_of};
-ghost use Rattle.walks.specs.Walks.{on_front};
-ghost use Rattle.calls.specs.Shapes.{shown};
+ghost use Rattle.walks.specs.Walks.{as_found, on_front};
 
 use assorter::Assorter;
 use ballot::Card;
@@ -23,26 +22,24 @@ pub(crate) fn enter_all<A: Assorter + Copy, P: Policy + Copy>(
     records: &mut [Record<A, P>],
     count: usize,
     limit: u16,
-    found: u8,
-    card: &Card,
+    card: Option<&Card>,
 )
     requires { (count ≤ length records.old) × (10 ≤ limit) }
-    ensures moves { map (account P.state) records.new ≡ on_front (after_entry (rules_of A.Assorter P.Policy) limit (shown 0 found card.now)) count (map (account P.state) records.old) }
+    ensures moves { map (account P.state) records.new ≡ on_front (after_entry (rules_of A.Assorter P.Policy) limit (as_found (option_copied card.entry))) count (map (account P.state) records.old) }
     ensures beyond { drop count records.new ≡ drop count records.old }
 {
-    enter_each(&mut records[0..count], limit, found, card);
+    enter_each(&mut records[0..count], limit, card);
 }
 
 /// Each of the first `count` records takes the card of the hand count.
 pub(crate) fn count_all<A: Assorter + Copy, P: Policy + Copy>(
     records: &mut [Record<A, P>],
     count: usize,
-    found: u8,
-    card: &Card,
+    card: Option<&Card>,
 )
     requires { count ≤ length records.old }
-    ensures moves { map (account P.state) records.new ≡ on_front (after_count (rules_of A.Assorter P.Policy) (shown 0 found card.now)) count (map (account P.state) records.old) }
+    ensures moves { map (account P.state) records.new ≡ on_front (after_count (rules_of A.Assorter P.Policy) (as_found (option_copied card.entry))) count (map (account P.state) records.old) }
     ensures beyond { drop count records.new ≡ drop count records.old }
 {
-    count_each(&mut records[0..count], found, card);
+    count_each(&mut records[0..count], card);
 }

@@ -1,6 +1,7 @@
+use Rattle.std.proofs.Common.{option_copied}
 use Rattle.betting.specs.Accounts.{account}
 use Rattle.course.specs.Course.{after_entry, rules_of}
-use Rattle.calls.specs.Shapes.{shown}
+use Rattle.walks.specs.Walks.{as_found}
 use Rattle.calls.proofs.Fronts.{rest_kept, written_front}
 use Rattle.calls.proofs.records.enter_all.Goals as goal
 
@@ -8,7 +9,7 @@ pub returns : goal.returns
 returns g c =
     let m = account {A = g.row.A.Denot} g.P.Policy.state in
     let R = rules_of g.A.Assorter g.P.Policy in
-    let f = after_entry R c.args.limit (shown 0 c.args.found c.args.card.now) in
+    let f = after_entry R c.args.limit (as_found (option_copied c.args.card)) in
     let rs = c.args.records.now in
     let ys = c.enter_each.new.records in
     record {

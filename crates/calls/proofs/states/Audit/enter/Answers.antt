@@ -4,8 +4,10 @@ use Rattle.betting.specs.Accounts.{account}
 use Rattle.course.specs.Course.{after_entry, answered, rules_of, unless_refused}
 use Rattle.course.specs.Course.Call.{entry}
 use Rattle.course.specs.Course.Answer.{taken}
+use Rattle.walks.specs.Walks.{on_front}
 use Rattle.calls.specs.Calls.{audit_state}
 use Rattle.calls.specs.Shapes.{shown_of, terms_of}
+use Rattle.calls.proofs.Founds.{entered_alike}
 use Rattle.calls.proofs.Fronts.{front_of}
 use Rattle.calls.proofs.Refusals.{entry_left}
 use Rattle.calls.proofs.states.Audit.enter.Goals as goal
@@ -44,7 +46,7 @@ returns g c =
     record {
       course =
           ap (λ xs. (record { accounts = xs; drawn = c.args.self.now.drawn + 1; counted = 0 }, taken))
-          (ap (take n) c.enter_all.ensures.moves ∙ front_of f n (map m rs) enough)
+          (ap (take n) c.enter_all.ensures.moves ∙ ap (λ h. take n (on_front h n (map m rs))) (entered_alike R e _ c.found_card-card.ensures t.limit) ∙ front_of f n (map m rs) enough)
           ∙ ap (λ o. unless_refused o σ (answered R t σ (entry e))) c.in_ok-check_entry.ensures;
       terms = refl;
       beyond = c.enter_all.ensures.beyond;

@@ -4,8 +4,10 @@ use Rattle.betting.specs.Accounts.{account}
 use Rattle.course.specs.Course.{after_count, answered, rules_of, unless_refused}
 use Rattle.course.specs.Course.Call.{hand_count}
 use Rattle.course.specs.Course.Answer.{taken}
+use Rattle.walks.specs.Walks.{on_front}
 use Rattle.calls.specs.Calls.{count_state}
 use Rattle.calls.specs.Shapes.{shown_of, terms_of}
+use Rattle.calls.proofs.Founds.{counted_alike}
 use Rattle.calls.proofs.Fronts.{front_of}
 use Rattle.calls.proofs.Refusals.{count_left}
 use Rattle.calls.proofs.states.HandCount.count.Goals as goal
@@ -43,7 +45,7 @@ returns g c =
     record {
       course =
           ap (λ xs. (record { accounts = xs; drawn = c.args.self.now.drawn; counted = c.args.self.now.counted + 1 }, taken))
-          (ap (take n) c.count_all.ensures.moves ∙ front_of f n (map m rs) enough)
+          (ap (take n) c.count_all.ensures.moves ∙ ap (λ h. take n (on_front h n (map m rs))) (counted_alike R e _ c.found_card.ensures) ∙ front_of f n (map m rs) enough)
           ∙ ap (λ o. unless_refused o σ (answered R t σ (hand_count e))) c.in_ok-check_count.ensures;
       terms = refl;
       beyond = c.count_all.ensures.beyond;
