@@ -13,7 +13,7 @@ use crate::opened::NotOpened;
 use crate::states::Audit;
 use crate::terms::audit_terms;
 use acceptance::holds_setup;
-use assertion::{Assertion, Planned, Share, list_assertions};
+use assertion::{Assertion, Planned, list_assertions};
 use assorter::Assorter;
 use ballot::{Candidate, Contest};
 use betting::{ChosenPolicy, Policy, Record};
@@ -21,17 +21,6 @@ use bounded::List;
 use opening::{start_records, start_with};
 use refusal::Refusal;
 use setup::setup::Setup;
-
-/// An assertion that no contest makes.
-const BLANK: Planned = Planned {
-    assertion: Assertion::Share(Share {
-        contest: 0,
-        winner: 0,
-        p: 1,
-        q: 2,
-    }),
-    first_bet: 0,
-};
 
 /// The refusal of what holds no accepted setup.
 fn no_setup(setup: Setup) -> NotOpened
@@ -72,7 +61,7 @@ fn start_own(
     ensures beyond { drop setup.now.assertions records.new ≡ drop setup.now.assertions records.old }
     ensures refused { RefusedUnchanged result records.old records.new }
 {
-    let mut slots = [BLANK; 256];
+    let mut slots = [Planned::BLANK; 256];
     let mut planned = List::over(&mut slots);
     list_assertions(contests, candidates, &mut planned)?;
     start_records(planned.items(), setup.terms.policy, records)
