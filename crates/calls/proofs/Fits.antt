@@ -1,5 +1,5 @@
 -- Marks that fit their contests, and no mark, as tests of each mark.
-use Rattle.std.proofs.Common.{◌≡◌, ℕ, ◌^◌, ◌≤◌, Bool, true, false, ◌&&◌, eqb, ltb, List, [], ◌∷◌, length, take, drop, refl, ap, ◌∙◌, le_of_suc-le-suc, not-suc-le-zero}
+use Rattle.std.proofs.Common.{◌≡◌, ℕ, ◌^◌, ◌≤◌, Bool, true, false, ◌&&◌, eqb, ltb, List, [], ◌∷◌, map, length, take, drop, refl, ap, ◌∙◌, le_of_suc-le-suc, not-suc-le-zero}
 use Rattle.std.specs.List.{list_all, zip}
 use Rattle.course.specs.Terms.{blank, marks_fit}
 
@@ -15,13 +15,17 @@ and_assoc : (a b c : Bool) → ((a && b) && c) ≡ (a && (b && c))
 and_assoc true b c = refl
 and_assoc false b c = refl
 
-abbrev pub fitting : List ℕ → List ℕ → Bool
-fitting cs ms = list_all (λ p. ltb p.0 (2 ^ p.1)) (zip (take (length cs) ms) cs)
+-- n says how many candidates a contest has
+module _ {X : Type 0} (n : X → ℕ) where
+  abbrev pub fitting : List X → List ℕ → Bool
+  fitting xs ms = list_all (λ p. ltb p.0 (2 ^ n p.1)) (zip (take (length xs) ms) xs)
 
-pub each_fits : (cs ms : List ℕ) → length cs ≤ length ms → (fitting cs ms && blank (drop (length cs) ms)) ≡ marks_fit cs ms
-each_fits [] [] h = refl
-each_fits [] (m ∷ ms) h = none_fit (m ∷ ms)
-each_fits (c ∷ cs) [] h = absurd (not-suc-le-zero h)
-each_fits (c ∷ cs) (m ∷ ms) h =
-    and_assoc (ltb m (2 ^ c)) (fitting cs ms) (blank (drop (length cs) ms))
-    ∙ ap (λ b. ltb m (2 ^ c) && b) (each_fits cs ms (le_of_suc-le-suc h))
+  pub each_fits :
+      (xs : List X) (ms : List ℕ) → length xs ≤ length ms →
+      (fitting xs ms && blank (drop (length xs) ms)) ≡ marks_fit (map n xs) ms
+  each_fits [] [] h = refl
+  each_fits [] (m ∷ ms) h = none_fit (m ∷ ms)
+  each_fits (x ∷ xs) [] h = absurd (not-suc-le-zero h)
+  each_fits (x ∷ xs) (m ∷ ms) h =
+      and_assoc (ltb m (2 ^ n x)) (fitting xs ms) (blank (drop (length xs) ms))
+      ∙ ap (λ b. ltb m (2 ^ n x) && b) (each_fits xs ms (le_of_suc-le-suc h))

@@ -3,6 +3,5 @@ pub mod Fits
 pub mod Founds
 pub mod Parts
 pub mod Refusals
-pub mod Counts
 pub mod Plans
 pub mod Openings

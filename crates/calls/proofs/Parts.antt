@@ -1,9 +1,9 @@
--- A list that is filled part by part.
-use Rattle.std.proofs.Common.{◌≡◌, ℕ, zero, suc, ◌+◌, ◌-◌, ◌<◌, ◌≤◌, min, List, [], ◌∷◌, ◌++◌, map, length, get_or, take, drop, set, replicate, sym, refl, ap, ◌∙◌, arith, length-drop}
+-- What is told of a list part by part.
+use Rattle.std.proofs.Common.{◌≡◌, ℕ, zero, suc, ◌+◌, ◌<◌, ◌≤◌, min, List, [], ◌∷◌, ◌++◌, map, length, get_or, take, drop, set, sym, refl, ap, ◌∙◌, subst}
 use native.Mathlib.Nat.{zero-min, min-zero, suc-min-suc}
-use Rattle.std.proofs.lemmas.List.{append_assoc, append-nil, drop_all, drop-drop, drop-map, drop_more, drop-set-lt, take-map, take_more_set}
+use Rattle.std.specs.List.{AllZip}
+use Rattle.std.proofs.lemmas.List.{append_assoc, append-nil, drop_all, drop-map, drop_more, take-map, take_more_set}
 use Rattle.course.specs.Course.{parts}
-use Rattle.calls.specs.Shapes.{OnlyFirst}
 
 take_min : {X : Type 0} (n : ℕ) (xs : List X) → take (min n (length xs)) xs ≡ take n xs
 take_min zero xs = ap (λ k. take k xs) (zero-min (length xs))
@@ -16,46 +16,38 @@ drop_min zero xs = ap (λ k. drop k xs) (zero-min (length xs))
 drop_min (suc n) [] = ap (λ k. drop k []) (min-zero (suc n))
 drop_min (suc n) (x ∷ xs) = ap (λ k. drop k (x ∷ xs)) (suc-min-suc n (length xs)) ∙ drop_min n xs
 
--- m reads an element
-pub parts_map :
-    {R X Y : Type 0} (m : R → X) (F : List X → Y) (ns : List ℕ) (rs : List R) →
-    map F (parts ns (map m rs)) ≡ map (λ part. F (map m part)) (parts ns rs)
-parts_map m F [] rs = refl
-parts_map m F (n ∷ ns) rs =
-    ap (λ part. F part ∷ map F (parts ns (drop n (map m rs)))) (take-map m n rs)
-    ∙ ap (λ rest. F (map m (take n rs)) ∷ map F (parts ns rest)) (drop-map m n rs)
-    ∙ ap (λ ys. F (map m (take n rs)) ∷ ys) (parts_map m F ns (drop n rs))
+module _ {R Y : Type 0} (Q : List R → Y → Type 0) (ns : List ℕ) (rs : List R) where
+  -- the first i parts are told in ys, and rest has the others
+  abbrev pub Told : ℕ → List R → List Y → Type 0
+  Told i rest ys = (zs : List Y) → AllZip Q (parts (drop i ns) rest) zs → AllZip Q (parts ns rs) (take i ys ++ zs)
 
-module _ {R Y : Type 0} (F : List R → Y) (ns : List ℕ) (rs : List R) where
-  -- the first i parts are in out, and start is where the next begins
-  abbrev pub Filled : ℕ → ℕ → List Y → Type 0
-  Filled i start out = map F (parts ns rs) ≡ take i out ++ map F (parts (drop i ns) (drop start rs))
-
-  pub filled_more :
-      (i start count : ℕ) (out : List Y) (y : Y) → i < length ns → i < length out →
-      count ≡ min (get_or ns i 0) (length rs - start) → Filled i start out → y ≡ F (take count (drop start rs)) →
-      Filled (i + 1) (start + count) (set out i y)
-  filled_more i start count out y in-ns in-out cut so_far new =
+  pub told_more :
+      (i count : ℕ) (rest : List R) (ys : List Y) (y : Y) → i < length ns → i < length ys →
+      count ≡ min (get_or ns i 0) (length rest) → Told i rest ys → Q (take count rest) y →
+      Told (i + 1) (drop count rest) (set ys i y)
+  told_more i count rest ys y in-ns in-ys cut so_far q zs later =
       let n = get_or ns i 0 in
-      let xs = drop start rs in
-      let rest = drop (i + 1) ns in
-      let here : count ≡ min n (length xs) = cut ∙ ap (min n) (sym (length-drop start rs)) in
-      let part : F (take n xs) ≡ y = ap F (sym (take_min n xs) ∙ ap (λ k. take k xs) (sym here)) ∙ sym new in
-      let later : drop n xs ≡ drop (start + count) rs =
-      sym (drop_min n xs) ∙ ap (λ k. drop k xs) (sym here) ∙ drop-drop count start rs in
-      so_far ∙ ap (λ ks. take i out ++ map F (parts ks xs)) (drop_more ns i 0 in-ns)
-      ∙ ap (λ z. take i out ++ (z ∷ map F (parts rest (drop n xs)))) part
-      ∙ ap (λ zs. take i out ++ (y ∷ map F (parts rest zs))) later
-      ∙ sym (append_assoc (take i out) (y ∷ []) (map F (parts rest (drop (start + count) rs))))
-      ∙ ap (λ zs. zs ++ map F (parts rest (drop (start + count) rs))) (sym (take_more_set out i y in-out))
+      let here : take count rest ≡ take n rest = ap (λ k. take k rest) cut ∙ take_min n rest in
+      let after : drop count rest ≡ drop n rest = ap (λ k. drop k rest) cut ∙ drop_min n rest in
+      let all : AllZip Q (parts (drop i ns) rest) (y ∷ zs) =
+      subst (λ ks. AllZip Q (parts ks rest) (y ∷ zs)) (sym (drop_more ns i 0 in-ns))
+      (subst (λ xs. Q xs y) here q, subst (λ xs. AllZip Q (parts (drop (i + 1) ns) xs) zs) after later) in
+      subst (AllZip Q (parts ns rs))
+      (sym (append_assoc (take i ys) (y ∷ []) zs) ∙ ap (λ xs. xs ++ zs) (sym (take_more_set ys i y in-ys)))
+      (so_far (y ∷ zs) all)
 
-  pub filled_all :
-      (i start : ℕ) (out : List Y) → length ns ≤ i → Filled i start out → take i out ≡ map F (parts ns rs)
-  filled_all i start out h so_far =
-      sym (so_far ∙ ap (λ ks. take i out ++ map F (parts ks (drop start rs))) (drop_all i ns h) ∙ append-nil (take i out))
+  pub told_all : (i : ℕ) (rest : List R) (ys : List Y) → length ns ≤ i → Told i rest ys → AllZip Q (parts ns rs) (take i ys)
+  told_all i rest ys h so_far =
+      subst (AllZip Q (parts ns rs)) (append-nil (take i ys))
+      (so_far [] (subst (λ ks. AllZip Q (parts ks rest) []) (sym (drop_all i ns h)) tt))
 
--- a place that is used is not among the others
-pub first_more :
-    {X : Type 0} (i : ℕ) (x y : X) (xs : List X) → OnlyFirst i x xs → OnlyFirst (i + 1) x (set xs i y)
-first_more i x y xs e =
-    drop-set-lt (i + 1) xs i y (omega arith) ∙ sym (drop-drop 1 i xs) ∙ ap (drop 1) e ∙ drop-drop 1 i (replicate 8 x)
+-- m reads an element, and each part's value is F of what is read
+pub parts_told :
+    {R X Y : Type 0} (Q : List R → Y → Type 0) (m : R → X) (F : List X → Y) → ((part : List R) (y : Y) → Q part y → y ≡ F (map m part)) →
+    (ns : List ℕ) (rs : List R) (ys : List Y) → AllZip Q (parts ns rs) ys → ys ≡ map F (parts ns (map m rs))
+parts_told Q m F each [] rs [] told = refl
+parts_told Q m F each [] rs (y ∷ ys) told = absurd told
+parts_told Q m F each (n ∷ ns) rs [] told = absurd told
+parts_told Q m F each (n ∷ ns) rs (y ∷ ys) told =
+    ap (λ z. z ∷ ys) (each (take n rs) y told.0 ∙ ap F (sym (take-map m n rs)))
+    ∙ ap (λ zs. F (take n (map m rs)) ∷ zs) (parts_told Q m F each ns (drop n rs) ys told.1 ∙ ap (λ xs. map F (parts ns xs)) (sym (drop-map m n rs)))

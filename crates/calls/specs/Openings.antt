@@ -23,8 +23,12 @@ use Rattle.course.specs.Promise.{Promised}
 use Rattle.opening.specs.Starts.{started}
 use Rattle.calls.specs.declared.opened.NotOpened.{NotOpened}
 use Rattle.calls.specs.declared.states.Audit.{Audit}
+use Rattle.calls.specs.declared.terms.Size.{Size}
 use Rattle.calls.specs.Calls.{audit_state}
 use Rattle.calls.specs.Shapes.{terms_of}
+
+abbrev pub size_of : Contest → Size
+size_of x = record { candidates = x.candidates; assertions = assertion_count x }
 
 -- The terms of an audit of this setup with these contests.
 abbrev pub setup_terms : Setup → List Contest → course.Terms

@@ -1,18 +1,17 @@
 -- The code's terms, cards and lists in the words of an audit's course.
-use Rattle.std.specs.Prelude.{◌≡◌, ◌==◌, ℕ, List, take, drop, replicate, Some, None, Option, if◌then◌else◌}
+use Rattle.std.specs.Prelude.{◌≡◌, ◌==◌, ℕ, List, map, drop, replicate, Some, None, Option, if◌then◌else◌}
 use Rattle.ballot.specs.declared.Card.{Card}
 use Rattle.course.specs.Terms as course
 use Rattle.calls.specs.declared.answers.Shown.{Shown}
 use Rattle.calls.specs.declared.terms.Terms.{Terms}
 
--- One entry of the lists counts for each contest.
 abbrev pub terms_of : Terms → course.Terms
 terms_of t = record {
   cards = t.cards;
   limit = t.risk_limit;
   draws = t.draw_limit;
-  candidates = take t.contests t.candidates;
-  assertions = take t.contests t.assertions;
+  candidates = map (λ x. x.candidates) t.sizes.items;
+  assertions = map (λ x. x.assertions) t.sizes.items;
 }
 
 abbrev pub shown : ℕ → ℕ → Card → course.Shown

@@ -71,7 +71,7 @@ impl HandCount {
         }
         let needed = terms.needed;
         Ok(Closing {
-            contests: terms.contests,
+            contests: terms.sizes.len() as u8,
             upheld: contests_above(terms, &records[0..needed]),
         })
     }

@@ -86,7 +86,7 @@ impl Audit {
         Ok(Verdict {
             finding: found_by(settled, self.drawn == terms.draw_limit),
             draws: self.drawn,
-            contests: terms.contests,
+            contests: terms.sizes.len() as u8,
             risks: contest_risks(terms, &records[0..needed]),
         })
     }

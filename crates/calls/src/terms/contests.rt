@@ -1,26 +1,44 @@
 //! What the records tell of each contest.
-ghost use Rattle.std.specs.Prelude.{◌≡◌, false, map, take};
+ghost use Rattle.std.specs.Prelude.{◌≡◌, ◌≤◌, false, map, length, take, drop};
+ghost use Rattle.std.specs.Fn.{FnReturnsAt};
+ghost use Rattle.std.specs.List.{AllZip};
 ghost use Rattle.betting.specs.Accounts.{account};
 ghost use Rattle.course.specs.Course.{all_above, parts, rules_of, worst_risk};
 ghost use Rattle.calls.specs.Shapes.{OnlyFirst, terms_of};
 
-use super::Terms;
+use super::{Size, Terms};
 use assorter::Assorter;
 use betting::{Policy, Record};
 use walks::{all_above, worst_risk};
 
+/// Puts what is told of each contest's part of the records at the contest's place.
+fn tell_each<R, T: Copy, F: Fn(&[R]) -> T>(sizes: &[Size], records: &[R], places: &mut [T], tell: F)
+    requires tells { F.IsAlwaysCallable tell }
+    requires room { length sizes.now ≤ length places.old }
+    ensures parts { AllZip (FnReturnsAt F.Fn tell) (parts (map (λ x. x.assertions) sizes.now) records.now) (take (length sizes.now) places.new) }
+    ensures rest { drop (length sizes.now) places.new ≡ drop (length sizes.now) places.old }
+{
+    let mut rest = records;
+    for (i, size) in sizes.iter().enumerate() {
+        let count = (size.assertions as usize).min(rest.len());
+        let (part, later) = rest.split_at(count);
+        places[i] = tell(part);
+        rest = later;
+    }
+}
+
 /// Each contest's largest risk; past the contests there are zeros.
 pub(crate) fn contest_risks<A, P: Policy>(terms: &Terms, records: &[Record<A, P>]) -> [u16; 8]
-    ensures parts { take terms.now.contests result ≡ map worst_risk (parts (terms_of terms.now).assertions (map (account P.state) records.now)) }
-    ensures rest { OnlyFirst terms.now.contests 0 result }
+    ensures parts { take (length terms.now.sizes.items) result ≡ map worst_risk (parts (terms_of terms.now).assertions (map (account P.state) records.now)) }
+    ensures rest { OnlyFirst (length terms.now.sizes.items) 0 result }
 {
     let mut risks = [0; 8];
-    let mut start: usize = 0;
-    for i in 0..terms.contests as usize {
-        let count = (terms.assertions[i] as usize).min(records.len() - start);
-        risks[i] = worst_risk(&records[start..start + count]) as u16;
-        start += count;
-    }
+    tell_each(
+        &terms.sizes,
+        records,
+        &mut risks,
+        |part| worst_risk(part) as u16,
+    );
     risks
 }
 
@@ -30,15 +48,16 @@ pub(crate) fn contests_above<A: Assorter, P: Policy>(
     terms: &Terms,
     records: &[Record<A, P>],
 ) -> [bool; 8]
-    ensures parts { take terms.now.contests result ≡ map (all_above (rules_of A.Assorter P.Policy) terms.now.cards) (parts (terms_of terms.now).assertions (map (account P.state) records.now)) }
-    ensures rest { OnlyFirst terms.now.contests false result }
+    ensures parts { take (length terms.now.sizes.items) result ≡ map (all_above (rules_of A.Assorter P.Policy) terms.now.cards) (parts (terms_of terms.now).assertions (map (account P.state) records.now)) }
+    ensures rest { OnlyFirst (length terms.now.sizes.items) false result }
 {
     let mut above = [false; 8];
-    let mut start: usize = 0;
-    for i in 0..terms.contests as usize {
-        let count = (terms.assertions[i] as usize).min(records.len() - start);
-        above[i] = all_above(&records[start..start + count], terms.cards);
-        start += count;
-    }
+    let cards = terms.cards;
+    tell_each(
+        &terms.sizes,
+        records,
+        &mut above,
+        |part| all_above(part, cards),
+    );
     above
 }

@@ -1,10 +1,10 @@
 //! What an entry or a count may show.
-ghost use Rattle.std.specs.Prelude.{◌≡◌, ◌^◌, ◌≤◌, length, nat_lt};
+ghost use Rattle.std.specs.Prelude.{◌≡◌, ◌^◌, ◌≤◌, map, length, nat_lt};
 ghost use Rattle.course.specs.Terms.{blank, marks_fit, shown_refusal};
 ghost use Rattle.calls.specs.Calls.{refusal_in};
 ghost use Rattle.calls.specs.Shapes.{shown_of, terms_of};
 
-use super::Terms;
+use super::{Size, Terms};
 use crate::answers::Shown;
 use refusal::Refusal;
 
@@ -24,14 +24,14 @@ fn fits(marks: u32, candidates: u8) -> bool
 
 /// Whether each contest's marks are for its candidates, and there are none for a contest that
 /// isn't there.
-fn marks_fit(candidates: &[u8], marks: &[u32; 8]) -> bool
-    requires { length candidates.now ≤ 8 }
-    ensures { result ≡ marks_fit candidates.now marks.now }
+fn marks_fit(sizes: &[Size], marks: &[u32; 8]) -> bool
+    requires { length sizes.now ≤ 8 }
+    ensures { result ≡ marks_fit (map (λ x. x.candidates) sizes.now) marks.now }
 {
-    let (own, others) = marks.split_at(candidates.len());
+    let (own, others) = marks.split_at(sizes.len());
     own.iter()
-        .zip(candidates)
-        .all(|(m, count)| fits(*m, *count))
+        .zip(sizes)
+        .all(|(m, size)| fits(*m, size.candidates))
         && is_blank(others)
 }
 
@@ -46,7 +46,7 @@ pub(crate) fn check_shown(terms: &Terms, shown: &Shown) -> Result<(), Refusal>
         return Err(Refusal::BadFound);
     }
     let marks = &shown.card.marks;
-    let fit = marks_fit(&terms.candidates[0..terms.contests as usize], marks);
+    let fit = marks_fit(&terms.sizes, marks);
     if !fit || shown.found == 0 && !is_blank(marks) {
         return Err(Refusal::BadMarks);
     }

@@ -1,36 +1,27 @@
 //! The terms with which an audit of a setup begins.
-ghost use Rattle.std.specs.Prelude.{◌≡◌, ◌≤◌, map, length, take};
+ghost use Rattle.std.specs.Prelude.{◌≡◌, ◌≤◌, map, length};
 ghost use Rattle.acceptance.specs.Held.{HoldsSetup};
-ghost use Rattle.ballot.specs.Contests.{assertion_count};
-ghost use Rattle.calls.specs.Openings.{setup_terms};
+ghost use Rattle.calls.specs.Openings.{setup_terms, size_of};
 ghost use Rattle.calls.specs.Shapes.{terms_of};
 
-use super::Terms;
+use super::{Size, Terms};
+use arrayvec::ArrayVec;
 use ballot::{Candidate, Contest};
 use setup::setup::Setup;
 
-/// How many candidates each contest has; past the contests the list says nothing.
-fn candidate_counts(contests: &[Contest]) -> [u8; 8]
+/// The size of each contest.
+fn contest_sizes(contests: &[Contest]) -> ArrayVec<Size, 8>
     requires { length contests.now ≤ 8 }
-    ensures { take (length contests.now) result ≡ map (λ x. x.candidates) contests.now }
+    ensures { result.items ≡ map size_of contests.now }
 {
-    let mut counts = [0; 8];
-    for i in 0..contests.len() {
-        counts[i] = contests[i].candidates;
+    let mut sizes = ArrayVec::new();
+    for contest in contests {
+        sizes.push(Size {
+            candidates: contest.candidates,
+            assertions: contest.assertion_count(),
+        });
     }
-    counts
-}
-
-/// How many assertions each contest makes; past the contests the list says nothing.
-fn assertion_counts(contests: &[Contest]) -> [u16; 8]
-    requires { length contests.now ≤ 8 }
-    ensures { take (length contests.now) result ≡ map assertion_count contests.now }
-{
-    let mut counts = [0; 8];
-    for i in 0..contests.len() {
-        counts[i] = contests[i].assertion_count();
-    }
-    counts
+    sizes
 }
 
 /// The terms of an accepted setup.
@@ -43,9 +34,7 @@ pub(crate) fn audit_terms(setup: &Setup, contests: &[Contest], candidates: &[Can
         cards: setup.cards,
         risk_limit: setup.terms.risk_limit,
         draw_limit: setup.terms.draw_limit,
-        contests: contests.len() as u8,
-        candidates: candidate_counts(contests),
-        assertions: assertion_counts(contests),
+        sizes: contest_sizes(contests),
         needed: setup.assertions as usize,
     }
 }

@@ -1,45 +1,13 @@
-use Rattle.std.proofs.Common.{◌≡◌, ◌+◌, ◌-◌, ◌<◌, ◌≤◌, min, map, length, get_or, take, drop, replicate, sym, ap, ◌∙◌, arith, length-set, rules}
-use Rattle.std.proofs.lemmas.List.{get_or-take, length-take}
+use Rattle.std.proofs.Common.{◌≡◌, map, length, take, subst, rules}
 use Rattle.betting.specs.Accounts.{account}
-use Rattle.course.specs.Course.{worst_risk}
-use Rattle.calls.proofs.Parts.{filled_more, filled_all, first_more, parts_map}
+use Rattle.course.specs.Course.{parts, worst_risk}
+use Rattle.calls.proofs.Parts.{parts_told}
 use Rattle.calls.proofs.terms.contests.contest_risks.Goals as goal
 
-pub loop-i-preserved : goal.loop-i-preserved
-loop-i-preserved g c =
-    let t = c.args.terms.now in
-    let rs = c.args.records.now in
-    let i = c.loop-i.i in
-    let start = c.loop-i.start in
+pub returns-clause-parts : goal.returns-clause-parts
+returns-clause-parts g c =
     let m = account {A = g.row.A.Denot} g.P.Policy.state in
-    let ns = take t.contests t.assertions in
-    let cut : c.min-count.result ≡ min (get_or t.assertions i 0) (length rs - start) = search rules in
-    let at : get_or ns i 0 ≡ get_or t.assertions i 0 = get_or-take t.contests t.assertions i 0 (omega arith) in
-    let eight : length t.assertions ≡ 8 = search rules in
-    let in-ns : i < length ns = simp length-take (omega arith) in
-    let whole : start + c.min-count.result - start ≡ c.min-count.result = omega arith in (
-      omega (arith, cut),
-      length-set c.loop-i.risks i c.worst_risk.result ∙ c.loop-i.invariant.1,
-      filled_more (λ part. worst_risk (map m part)) ns rs i start c.min-count.result c.loop-i.risks
-          c.worst_risk.result in-ns (omega (arith, c.loop-i.invariant.1))
-          (cut ∙ ap (λ n. min n (length rs - start)) (sym at)) c.loop-i.invariant.2
-          (c.worst_risk.ensures.is ∙ ap (λ n. worst_risk (map m (take n (drop start rs)))) whole),
-      first_more c.loop-i.i 0 c.worst_risk.result c.loop-i.risks c.loop-i.invariant.3,
-    )
-
-pub returns : goal.returns
-returns g c =
-    let t = c.args.terms.now in
     let rs = c.args.records.now in
-    let m = account {A = g.row.A.Denot} g.P.Policy.state in
-    let ns = take t.contests t.assertions in
-    let at_end : t.contests ≡ c.loop-i.i = omega arith in
-    let short : length ns ≤ c.loop-i.i = simp length-take (omega arith) in
-    record {
-      parts = ap (λ n. take n c.loop-i.risks) at_end
-          ∙ filled_all (λ part. worst_risk (map m part)) ns rs c.loop-i.i c.loop-i.start c.loop-i.risks short
-          c.loop-i.invariant.2
-          ∙ sym (parts_map m worst_risk ns rs);
-      rest =
-          ap (λ n. drop n c.loop-i.risks) at_end ∙ c.loop-i.invariant.3 ∙ ap (λ n. drop n (replicate 8 0)) (sym at_end);
-    }
+    let ys = c.tell_each.new.places in
+    subst (λ xs. take (length xs) ys ≡ map worst_risk (parts (map (λ x. x.assertions) xs) (map m rs))) c.deref.ensures.0
+    (parts_told _ m worst_risk (λ part y k. search rules) (map (λ x. x.assertions) c.deref.result.now) rs _ c.tell_each.ensures.parts)
