@@ -1,52 +1,42 @@
-use Rattle.std.proofs.Common.{◌≡◌, ◌+◌, ◌≤◌, map, length, take, sum, refl, ap, ◌∙◌, arith, rules}
+use Rattle.std.proofs.Common.{◌≡◌, ◌+◌, map, length, take, refl, ap, ◌∙◌, arith}
 use lib.ListN.{length-map}
 use Rattle.betting.specs.Accounts.{account}
-use Rattle.course.specs.Course.{after_entry, answered, rules_of, unless_refused}
+use Rattle.course.specs.Course.{answered, rules_of, unless_refused}
 use Rattle.course.specs.Course.Call.{entry}
 use Rattle.course.specs.Course.Answer.{taken}
-use Rattle.walks.specs.Walks.{on_front}
 use Rattle.calls.specs.Calls.{audit_state}
 use Rattle.calls.specs.Shapes.{shown_of, terms_of}
-use Rattle.calls.proofs.Founds.{entered_alike}
-use Rattle.calls.proofs.Fronts.{front_of}
+use Rattle.calls.proofs.Founds.{entry_moved}
 use Rattle.calls.proofs.Refusals.{entry_left}
 use Rattle.calls.proofs.states.Audit.enter.Goals as goal
 
 pub enter_all-requires : goal.enter_all-requires
-enter_all-requires g c =
-    let t = terms_of c.args.self.now.terms in
-    let rs = c.args.records.now in
-    let σ = audit_state c.args.self.now (map (account {A = g.row.A.Denot} g.P.Policy.state) rs) in
-    let left = entry_left t (length rs) σ (shown_of c.args.shown.now) c.in_ok-check_entry.ensures in
-    let total : c.args.self.now.terms.needed ≡ sum t.assertions = search rules in
-    let lowest : 10 ≤ c.args.self.now.terms.risk_limit = search rules in
-    (omega (arith, total, left.0), omega (arith, lowest))
+enter_all-requires g c = (
+  (entry_left _ c.args.shown.now _ c.args.self.now c.in_ok-check_entry.ensures).0,
+  c.args.self.now.terms.ranges.0,
+)
 
 pub overflow_add-self : goal.overflow_add-self
 overflow_add-self g c =
-    let t = terms_of c.args.self.now.terms in
-    let σ = audit_state c.args.self.now (map (account {A = g.row.A.Denot} g.P.Policy.state) c.args.records.now) in
-    let left = entry_left t (length c.args.records.now) σ (shown_of c.args.shown.now) c.in_ok-check_entry.ensures in
-    let most : c.args.self.now.terms.draw_limit ≤ 20000 = search rules in
-    record { fits = omega (arith, left.1, most) }
+    let left = entry_left _ c.args.shown.now _ c.args.self.now c.in_ok-check_entry.ensures in
+    record { fits = omega (arith, left.1, c.args.self.now.terms.ranges.2) }
 
 pub returns : goal.returns
 returns g c =
-    let t = terms_of c.args.self.now.terms in
+    let a = c.args.self.now in
+    let t = terms_of a.terms in
+    let e = shown_of c.args.shown.now in
+    let R = rules_of g.A.Assorter g.P.Policy in
     let m = account {A = g.row.A.Denot} g.P.Policy.state in
     let rs = c.args.records.now in
-    let e = shown_of c.args.shown.now in
-    let σ = audit_state c.args.self.now (map m rs) in
-    let R = rules_of g.A.Assorter g.P.Policy in
-    let n = c.args.self.now.terms.needed in
-    let total : n ≡ sum t.assertions = search rules in
-    let left = entry_left t (length rs) σ e c.in_ok-check_entry.ensures in
-    let f = after_entry R t.limit e in
-    let enough : n ≤ length (map m rs) = omega (arith, total, left.0, length-map rs m) in
+    let σ = audit_state a (map m rs) in
+    let n = a.terms.needed in
+    let left = entry_left _ c.args.shown.now _ a c.in_ok-check_entry.ensures in
     record {
       course =
-          ap (λ xs. (record { accounts = xs; drawn = c.args.self.now.drawn + 1; counted = 0 }, taken))
-          (ap (take n) c.enter_all.ensures.moves ∙ ap (λ h. take n (on_front h n (map m rs))) (entered_alike R e _ c.found_card-card.ensures t.limit) ∙ front_of f n (map m rs) enough)
+          ap (λ xs. (record { accounts = xs; drawn = a.drawn + 1; counted = 0 }, taken))
+          (ap (take n) c.enter_all.ensures.moves
+          ∙ entry_moved R e _ c.found_card-card.ensures t.limit n (map m rs) (omega (arith, left.0, length-map rs m)))
           ∙ ap (λ o. unless_refused o σ (answered R t σ (entry e))) c.in_ok-check_entry.ensures;
       terms = refl;
       beyond = c.enter_all.ensures.beyond;

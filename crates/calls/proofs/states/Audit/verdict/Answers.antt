@@ -21,7 +21,7 @@ returns g c =
     let n = c.args.self.now.terms.needed in
     let σ = audit_state c.args.self.now (map m rs) in
     let R = rules_of g.A.Assorter g.P.Policy in
-    let total : n ≡ sum t.assertions = search rules in
+    let total = c.args.self.now.terms.total in
     let whole : n - 0 ≡ n = omega arith in
     let found : c.found_by.result ≡ found_by t σ =
     c.found_by.ensures
@@ -31,7 +31,6 @@ returns g c =
     ap (λ k. take k c.contest_risks.result) c.len.ensures.value ∙ c.contest_risks.ensures.parts
     ∙ ap (λ k. map worst_risk (parts t.assertions (map m (take k rs)))) whole
     ∙ ap (λ xs. map worst_risk (parts t.assertions xs)) (sym (take-map m n rs)) in
-    let most : t.limit ≤ 500 = search rules in
     let there : sum t.assertions ≡ length σ.accounts =
     sym total ∙ omega (arith, length-take n (map m rs), length-map rs m, c.if-records-terms.false) in
     let tells : (step R t σ verdict).1 ≡ finding c.found_by.result σ.drawn (take c.len.result c.contest_risks.result) =
@@ -43,7 +42,7 @@ returns g c =
           ∙ ap (λ o. unless_refused o σ (answered R t σ verdict))
           (sym (enough n (sum t.assertions) (length rs) (Some NoRoom) None total c.if-records-terms.false));
       confirms =
-          confirms_by_risk R t σ there (omega (arith, most)) [] c.found_by.result σ.drawn
+          confirms_by_risk R t σ there (omega (arith, c.args.self.now.terms.ranges.1)) [] c.found_by.result σ.drawn
           (take c.len.result c.contest_risks.result) tells;
       bounded = search rules;
       rest = subst (λ k. OnlyFirst k 0 c.contest_risks.result) (sym c.len.ensures.value) c.contest_risks.ensures.rest;
