@@ -1,5 +1,6 @@
 -- Marks that fit their contests, and no mark, as tests of each mark.
-use Rattle.std.proofs.Common.{◌≡◌, ℕ, ◌^◌, ◌≤◌, Bool, true, false, ◌&&◌, eqb, ltb, List, [], ◌∷◌, map, length, take, drop, refl, ap, ◌∙◌, le_of_suc-le-suc, not-suc-le-zero}
+use Rattle.std.proofs.Common.{◌≡◌, ℕ, ◌^◌, ◌≤◌, Bool, ◌&&◌, eqb, ltb, List, [], ◌∷◌, map, length, take, drop, refl, ap, ◌∙◌, le_of_suc-le-suc, not-suc-le-zero}
+use Rattle.std.proofs.Math.Bool.{and_assoc}
 use Rattle.std.specs.List.{list_all, zip}
 use Rattle.course.specs.Terms.{blank, marks_fit}
 
@@ -10,10 +11,6 @@ all_blank (m ∷ ms) = ap (λ b. eqb m 0 && b) (all_blank ms)
 none_fit : (ms : List ℕ) → blank ms ≡ marks_fit [] ms
 none_fit [] = refl
 none_fit (m ∷ ms) = ap (λ b. eqb m 0 && b) (none_fit ms)
-
-and_assoc : (a b c : Bool) → ((a && b) && c) ≡ (a && (b && c))
-and_assoc true b c = refl
-and_assoc false b c = refl
 
 -- n says how many candidates a contest has
 module _ {X : Type 0} (n : X → ℕ) where

@@ -1,20 +1,8 @@
 -- What is told of a list part by part.
-use Rattle.std.proofs.Common.{◌≡◌, ℕ, zero, suc, ◌+◌, ◌<◌, ◌≤◌, min, List, [], ◌∷◌, ◌++◌, map, length, get_or, take, drop, set, sym, refl, ap, ◌∙◌, subst}
-use native.Mathlib.Nat.{zero-min, min-zero, suc-min-suc}
+use Rattle.std.proofs.Common.{◌≡◌, ℕ, ◌+◌, ◌<◌, ◌≤◌, min, List, [], ◌∷◌, ◌++◌, map, length, get_or, take, drop, set, sym, refl, ap, ◌∙◌, subst}
 use Rattle.std.specs.List.{AllZip}
-use Rattle.std.proofs.lemmas.List.{append_assoc, append-nil, drop_all, drop-map, drop_more, take-map, take_more_set}
+use Rattle.std.proofs.lemmas.List.{append_assoc, append-nil, drop_all, drop-map, drop_min, drop_more, take-map, take_min, take_more_set}
 use Rattle.course.specs.Course.{parts}
-
-take_min : {X : Type 0} (n : ℕ) (xs : List X) → take (min n (length xs)) xs ≡ take n xs
-take_min zero xs = ap (λ k. take k xs) (zero-min (length xs))
-take_min (suc n) [] = ap (λ k. take k []) (min-zero (suc n))
-take_min (suc n) (x ∷ xs) =
-    ap (λ k. take k (x ∷ xs)) (suc-min-suc n (length xs)) ∙ ap (λ ys. x ∷ ys) (take_min n xs)
-
-drop_min : {X : Type 0} (n : ℕ) (xs : List X) → drop (min n (length xs)) xs ≡ drop n xs
-drop_min zero xs = ap (λ k. drop k xs) (zero-min (length xs))
-drop_min (suc n) [] = ap (λ k. drop k []) (min-zero (suc n))
-drop_min (suc n) (x ∷ xs) = ap (λ k. drop k (x ∷ xs)) (suc-min-suc n (length xs)) ∙ drop_min n xs
 
 module _ {R Y : Type 0} (Q : List R → Y → Type 0) (ns : List ℕ) (rs : List R) where
   -- the first i parts are told in ys, and rest has the others

@@ -69,10 +69,9 @@ impl HandCount {
         if self.counted < terms.cards {
             return Err(Refusal::CountUnfinished);
         }
-        let needed = terms.needed;
         Ok(Closing {
             contests: terms.sizes.len() as u8,
-            upheld: contests_above(terms, &records[0..needed]),
+            upheld: contests_above(terms, &records[..terms.needed]),
         })
     }
 }

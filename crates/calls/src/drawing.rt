@@ -82,12 +82,11 @@ impl Audit {
             return Err(Refusal::NoRoom);
         }
         let settled = all_settled(records, terms.needed, terms.risk_limit);
-        let needed = terms.needed;
         Ok(Verdict {
             finding: found_by(settled, self.drawn == terms.draw_limit),
             draws: self.drawn,
             contests: terms.sizes.len() as u8,
-            risks: contest_risks(terms, &records[0..needed]),
+            risks: contest_risks(terms, &records[..terms.needed]),
         })
     }
 

@@ -1,12 +1,12 @@
-use Rattle.std.proofs.Common.{◌≡◌, map, take, refl}
+use Rattle.std.proofs.Common.{◌≡◌, map, take}
 use Rattle.betting.specs.Accounts.{account}
 use Rattle.course.specs.Course.{rules_of}
 use Rattle.opening.specs.Starts.{any_fewer, started}
 use Rattle.calls.proofs.Openings.{begun_by, had_enough, with_fresh, with_started}
 use Rattle.calls.proofs.opens.open_with.Goals as goal
 
-pub returns : goal.returns
-returns g c =
+pub returns-clause-begun : goal.returns-clause-begun
+returns-clause-begun g c =
     let s = c.args.setup in
     let xs = c.args.assorters.now in
     let ps = c.args.policies.now in
@@ -19,12 +19,6 @@ returns g c =
     let enough = had_enough (any_fewer n xs ps rs) c.in_default.field-0 told.answer in
     let first : take n new ≡ take n (started xs (map state ps)) =
     with_started state xs ps n rs (map m rs) new enough told.accounts in
-    record {
-      answer = (c.if-not-holds_setup.ensures.0 refl, enough);
-      begun =
-          begun_by (rules_of g.A.Assorter g.P.Policy) s c.args.contests.now new c.begin.result c.begin.ensures.terms
-          c.begin.ensures.promise
-          (with_fresh n new xs (map state ps) first);
-      accounts = first;
-      others = told.beyond;
-    }
+    begun_by (rules_of g.A.Assorter g.P.Policy) s c.args.contests.now new c.begin.result c.begin.ensures.terms
+    c.begin.ensures.promise
+    (with_fresh n new xs (map state ps) first)
