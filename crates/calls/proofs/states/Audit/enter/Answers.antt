@@ -23,5 +23,5 @@ returns-clause-course g c =
     let lent : n ≤ length rs = grind (arith, common_steps) in
     ap (λ xs. (record { accounts = xs; drawn = a.drawn + 1; counted = 0 }, taken))
     (ap (take n) c.enter_all.ensures.moves
-    ∙ entry_moved R e _ c.found_card-card.ensures t.limit n (map m rs) (omega (arith, length-map rs m)))
+    ∙ entry_moved R e _ c.found_card-card.ensures n (map m rs) (omega (arith, length-map rs m)) t.limit)
     ∙ ap (λ o. unless_refused o σ (answered R t σ (entry e))) c.in_ok-check_entry.ensures

@@ -1,0 +1,27 @@
+use Rattle.std.proofs.Common.{◌+◌, ◌≤◌, map, length, take, ap, ◌∙◌, arith}
+use lib.ListN.{length-map}
+use Rattle.std.proofs.lemmas.Grind.{common_steps}
+use Rattle.betting.specs.Accounts.{account}
+use Rattle.course.specs.Course.{answered, rules_of, unless_refused}
+use Rattle.course.specs.Course.Call.{hand_count}
+use Rattle.course.specs.Course.Answer.{taken}
+use Rattle.calls.specs.Calls.{count_state}
+use Rattle.calls.specs.Shapes.{shown_of, terms_of}
+use Rattle.calls.proofs.Founds.{count_moved}
+use Rattle.calls.proofs.states.HandCount.count.Goals as goal
+
+pub returns-clause-course : goal.returns-clause-course
+returns-clause-course g c =
+    let h = c.args.self.now in
+    let t = terms_of h.terms in
+    let e = shown_of c.args.shown.now in
+    let R = rules_of g.A.Assorter g.P.Policy in
+    let m = account {A = g.row.A.Denot} g.P.Policy.state in
+    let rs = c.args.records.now in
+    let σ = count_state h (map m rs) in
+    let n = h.terms.needed in
+    let lent : n ≤ length rs = grind (arith, common_steps) in
+    ap (λ xs. (record { accounts = xs; drawn = h.drawn; counted = h.counted + 1 }, taken))
+    (ap (take n) c.count_all.ensures.moves
+    ∙ count_moved R e _ c.found_card.ensures n (map m rs) (omega (arith, length-map rs m)))
+    ∙ ap (λ o. unless_refused o σ (answered R t σ (hand_count e))) c.in_ok-check_count.ensures
