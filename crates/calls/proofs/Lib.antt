@@ -1,6 +1,5 @@
-pub mod Fronts
 pub mod Fits
-pub mod Founds
+pub mod Moves
 pub mod Parts
 pub mod Refusals
 pub mod Plans

@@ -7,13 +7,13 @@ ghost use Rattle.calls.specs.Calls.{called, count_state, first_refusal, KeptOnRe
 ghost use Rattle.calls.specs.Shapes.{shown_of, terms_of};
 
 use crate::answers::Shown;
-use crate::records::count_all;
 use crate::states::HandCount;
 use crate::terms::{check_shown, contests_above};
 use assorter::Assorter;
 use betting::{Policy, Record};
 use refusal::Refusal;
 use verdict::Closing;
+use walks::count_each;
 
 impl HandCount {
     /// Refuses a count with its first refusal.
@@ -48,7 +48,7 @@ impl HandCount {
         ensures kept { (KeptOnRefusal result self.old self.new) × (KeptOnRefusal result records.old records.new) }
     {
         self.check_count(records, shown)?;
-        count_all(records, self.terms.needed, shown.found_card());
+        count_each(&mut records[..self.terms.needed], shown.found_card());
         self.counted += 1;
         Ok(())
     }

@@ -8,13 +8,13 @@ ghost use Rattle.calls.specs.Calls.{audit_state, called, ConfirmsByRisk, DrawsWi
 ghost use Rattle.calls.specs.Shapes.{shown_of, terms_of};
 
 use crate::answers::Shown;
-use crate::records::{all_settled, enter_all};
 use crate::states::{Audit, HandCount};
 use crate::terms::{check_shown, contest_risks};
 use assorter::Assorter;
 use betting::{Policy, Record};
 use refusal::Refusal;
 use verdict::{Finding, Verdict};
+use walks::{each_settled, enter_each};
 
 impl Audit {
     /// Whether no assertion wants a draw, or the draws are spent.
@@ -23,7 +23,7 @@ impl Audit {
         ensures { result ≡ no_draws_left (terms_of self.now.terms) (audit_state self.now (map (account P.state) records.now)) }
     {
         let terms = &self.terms;
-        all_settled(records, terms.needed, terms.risk_limit) || self.drawn >= terms.draw_limit
+        each_settled(&records[..terms.needed], terms.risk_limit) || self.drawn >= terms.draw_limit
     }
 
     /// Refuses an entry with its first refusal.
@@ -59,8 +59,8 @@ impl Audit {
     {
         self.check_entry(records, shown)?;
         let terms = &self.terms;
-        let card = shown.found_card();
-        enter_all(records, terms.needed, terms.risk_limit, card);
+        let own = &mut records[..terms.needed];
+        enter_each(own, terms.risk_limit, shown.found_card());
         self.drawn += 1;
         Ok(())
     }
@@ -81,12 +81,13 @@ impl Audit {
         if records.len() < terms.needed {
             return Err(Refusal::NoRoom);
         }
-        let settled = all_settled(records, terms.needed, terms.risk_limit);
+        let own = &records[..terms.needed];
+        let settled = each_settled(own, terms.risk_limit);
         Ok(Verdict {
             finding: found_by(settled, self.drawn == terms.draw_limit),
             draws: self.drawn,
             contests: terms.sizes.len() as u8,
-            risks: contest_risks(terms, &records[..terms.needed]),
+            risks: contest_risks(terms, own),
         })
     }
 

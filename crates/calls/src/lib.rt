@@ -8,7 +8,6 @@ mod drawing;
 mod lending;
 mod opened;
 mod opens;
-mod records;
 mod states;
 mod terms;
 

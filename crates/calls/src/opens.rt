@@ -70,6 +70,7 @@ fn start_own(
 /// Opens a setup, with its lists as read, to an audit: fills one record for each assertion of the
 /// contests, in order. Lists that hold no accepted setup with these numbers are refused first, then
 /// too few records; then nothing changes, and the setup is given back.
+// Contests and candidates stay two slices, here and below: the caller lends the memory that each list was read into.
 pub fn open(
     setup: Setup,
     contests: &[Contest],
@@ -84,6 +85,7 @@ pub fn open(
     if !holds_setup(&setup, contests, candidates) {
         return Err(no_setup(setup));
     }
+    // No `?` here: the error takes the setup back, which an opened audit still needs.
     if let Err(refusal) = start_own(&setup, contests, candidates, records) {
         return Err(NotOpened { refusal, setup });
     }

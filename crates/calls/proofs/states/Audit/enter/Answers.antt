@@ -1,5 +1,4 @@
-use Rattle.std.proofs.Common.{◌+◌, ◌≤◌, map, length, take, ap, ◌∙◌, arith}
-use lib.ListN.{length-map}
+use Rattle.std.proofs.Common.{◌+◌, ◌≤◌, map, length, ap, ◌∙◌, arith}
 use Rattle.std.proofs.lemmas.Grind.{common_steps}
 use Rattle.betting.specs.Accounts.{account}
 use Rattle.course.specs.Course.{answered, rules_of, unless_refused}
@@ -7,7 +6,7 @@ use Rattle.course.specs.Course.Call.{entry}
 use Rattle.course.specs.Course.Answer.{taken}
 use Rattle.calls.specs.Calls.{audit_state}
 use Rattle.calls.specs.Shapes.{shown_of, terms_of}
-use Rattle.calls.proofs.Founds.{entry_moved}
+use Rattle.calls.proofs.Moves.{entry_moved}
 use Rattle.calls.proofs.states.Audit.enter.Goals as goal
 
 pub returns-clause-course : goal.returns-clause-course
@@ -18,10 +17,8 @@ returns-clause-course g c =
     let R = rules_of g.A.Assorter g.P.Policy in
     let m = account {A = g.row.A.Denot} g.P.Policy.state in
     let rs = c.args.records.now in
-    let σ = audit_state a (map m rs) in
-    let n = a.terms.needed in
-    let lent : n ≤ length rs = grind (arith, common_steps) in
+    let lent : a.terms.needed ≤ length rs = grind (arith, common_steps) in
     ap (λ xs. (record { accounts = xs; drawn = a.drawn + 1; counted = 0 }, taken))
-    (ap (take n) c.enter_all.ensures.moves
-    ∙ entry_moved R e _ c.found_card-card.ensures n (map m rs) (omega (arith, length-map rs m)) t.limit)
-    ∙ ap (λ o. unless_refused o σ (answered R t σ (entry e))) c.in_ok-check_entry.ensures
+    (entry_moved R e _ c.found_card.ensures m a.terms.needed rs c.enter_each.new.records lent c.enter_each.auto.records
+    t.limit (c.enter_each.ensures.rules a.terms.ranges.0))
+    ∙ ap (λ o. unless_refused o (audit_state a (map m rs)) (answered R t (audit_state a (map m rs)) (entry e))) c.in_ok-check_entry.ensures

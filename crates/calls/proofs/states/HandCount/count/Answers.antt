@@ -1,5 +1,4 @@
-use Rattle.std.proofs.Common.{◌+◌, ◌≤◌, map, length, take, ap, ◌∙◌, arith}
-use lib.ListN.{length-map}
+use Rattle.std.proofs.Common.{◌+◌, ◌≤◌, map, length, ap, ◌∙◌, arith}
 use Rattle.std.proofs.lemmas.Grind.{common_steps}
 use Rattle.betting.specs.Accounts.{account}
 use Rattle.course.specs.Course.{answered, rules_of, unless_refused}
@@ -7,7 +6,7 @@ use Rattle.course.specs.Course.Call.{hand_count}
 use Rattle.course.specs.Course.Answer.{taken}
 use Rattle.calls.specs.Calls.{count_state}
 use Rattle.calls.specs.Shapes.{shown_of, terms_of}
-use Rattle.calls.proofs.Founds.{count_moved}
+use Rattle.calls.proofs.Moves.{count_moved}
 use Rattle.calls.proofs.states.HandCount.count.Goals as goal
 
 pub returns-clause-course : goal.returns-clause-course
@@ -18,10 +17,8 @@ returns-clause-course g c =
     let R = rules_of g.A.Assorter g.P.Policy in
     let m = account {A = g.row.A.Denot} g.P.Policy.state in
     let rs = c.args.records.now in
-    let σ = count_state h (map m rs) in
-    let n = h.terms.needed in
-    let lent : n ≤ length rs = grind (arith, common_steps) in
+    let lent : h.terms.needed ≤ length rs = grind (arith, common_steps) in
     ap (λ xs. (record { accounts = xs; drawn = h.drawn; counted = h.counted + 1 }, taken))
-    (ap (take n) c.count_all.ensures.moves
-    ∙ count_moved R e _ c.found_card.ensures n (map m rs) (omega (arith, length-map rs m)))
-    ∙ ap (λ o. unless_refused o σ (answered R t σ (hand_count e))) c.in_ok-check_count.ensures
+    (count_moved R e _ c.found_card.ensures m h.terms.needed rs c.count_each.new.records lent c.count_each.auto.records
+    c.count_each.ensures)
+    ∙ ap (λ o. unless_refused o (count_state h (map m rs)) (answered R t (count_state h (map m rs)) (hand_count e))) c.in_ok-check_count.ensures
