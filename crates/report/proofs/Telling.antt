@@ -52,8 +52,8 @@ risks_told n (x ∷ xs) (y ∷ ys) a b h l p q e =
     (risk_front n ++ decimal y)
     (xt ++ a)
     (yt ++ b)
-    (risk_quiet n x (omega arith) p.0)
-    (risk_quiet n y (omega arith) q.0)
+    (risk_quiet n x)
+    (risk_quiet n y)
     e1 in
     let d = append_cancel_left (risk_front n) (decimal x) (decimal y) f.0 in
     let s = decimal_injective x y (omega (arith, p.0)) (omega (arith, q.0)) d in
@@ -96,8 +96,8 @@ lines_tell v w p q l e =
     (codes "draws " ++ decimal w.draws)
     (finding_line v.finding)
     (finding_line w.finding)
-    (draws_quiet v.draws p.1)
-    (draws_quiet w.draws q.1)
+    (draws_quiet v.draws)
+    (draws_quiet w.draws)
     r.1 in
     let d = append_cancel_left (codes "draws ") (decimal v.draws) (decimal w.draws) f.0 in (
       r.0,

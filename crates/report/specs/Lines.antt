@@ -1,5 +1,6 @@
 -- The printed lines of a report, as bytes.
-use Rattle.std.specs.Prelude.{ℕ, ◌+◌, Bool, true, false, cond, List, [], ◌∷◌, ◌++◌, length, drop, Ok, Err, codes, decimal, count_by, Result, nat_eq, nat_le}
+use Rattle.std.specs.Prelude.{◌≡◌, ℕ, ◌+◌, Bool, true, false, cond, List, [], ◌∷◌, ◌++◌, length, drop, Ok, Err, codes, decimal, count_by, Result, nat_eq, nat_le}
+use Rattle.arrayvec.specs.ArrayString.{ArrayString}
 use Rattle.refusal.specs.declared.Refusal.{Refusal}
 use Rattle.refusal.specs.declared.Refusal.TheVariants.{ReportTooLong}
 use Rattle.verdict.specs.Contests.{contest_risks, contests_upheld}
@@ -16,6 +17,10 @@ line text = text ++ 10 ∷ []
 abbrev pub numbered : {A : Type 0} → (ℕ → A → List ℕ) → ℕ → List A → List ℕ
 numbered item n [] = []
 numbered item n (x ∷ xs) = item n x ++ numbered item (n + 1) xs
+
+-- Every text that `made` allows for a number and an item is the item's line.
+abbrev pub Writes : {A : Type 0} → (ℕ → A → ArrayString → Type 0) → (ℕ → A → List ℕ) → Type 0
+Writes made item = (n : ℕ) (x : _) (text : ArrayString) → made n x text → text.bytes ≡ item n x
 
 -- "contest 1 risk 46"
 abbrev pub risk_line : ℕ → ℕ → List ℕ

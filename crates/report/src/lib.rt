@@ -1,8 +1,9 @@
 //! The printed lines of a verdict and of a closed hand count.
 #![tactic(auto)]
 
-ghost use Rattle.std.specs.Prelude.{◌≡◌, ◌+◌, ◌≤◌, length, min};
-ghost use Rattle.report.specs.Lines.{closing_lines, draws_line, finding_line, line_count, outcome_line, report_answer, reported, risk_line, verdict_lines};
+ghost use Rattle.std.specs.Prelude.{◌≡◌, ℕ, ◌+◌, ◌*◌, ◌≤◌, List, length, min};
+ghost use Rattle.arrayvec.specs.ArrayString.{array_string_len};
+ghost use Rattle.report.specs.Lines.{closing_lines, draws_line, finding_line, line_count, numbered, outcome_line, report_answer, reported, risk_line, verdict_lines, Writes};
 ghost use Rattle.report.specs.Told.{LinesTell};
 
 use arrayvec::ArrayString;
@@ -10,11 +11,19 @@ use itoa::Buffer;
 use refusal::Refusal;
 use verdict::{Closing, Finding, Verdict};
 
+/// A line of a report; the longest is "contest 255 risk 65535".
+type Line = ArrayString<23>;
+
+/// The lines of a verdict or a close.
+type Text = ArrayString<256>;
+
+// Lines are pushed: where a `write!` fails it promises nothing, and no exact answer would follow.
+
 /// "contest 1 risk 46"
-fn risk_line(contest: u8, risk: u16) -> ArrayString<23>
+fn risk_line(contest: u8, risk: u16) -> Line
     ensures { result.bytes ≡ risk_line contest risk }
 {
-    let mut line = ArrayString::new();
+    let mut line = Line::new();
     let mut digits = Buffer::new();
     line.push_str("contest ");
     line.push_str(digits.format(contest));
@@ -25,10 +34,10 @@ fn risk_line(contest: u8, risk: u16) -> ArrayString<23>
 }
 
 /// "draws 17"
-fn draws_line(draws: u16) -> ArrayString<12>
+fn draws_line(draws: u16) -> Line
     ensures { result.bytes ≡ draws_line draws }
 {
-    let mut line = ArrayString::new();
+    let mut line = Line::new();
     line.push_str("draws ");
     line.push_str(Buffer::new().format(draws));
     line.push_str("\n");
@@ -48,10 +57,10 @@ fn finding_line(finding: Finding) -> &'static str
 }
 
 /// "contest 1 upheld"
-fn outcome_line(contest: u8, upheld: bool) -> ArrayString<23>
+fn outcome_line(contest: u8, upheld: bool) -> Line
     ensures { result.bytes ≡ outcome_line contest upheld }
 {
-    let mut line = ArrayString::new();
+    let mut line = Line::new();
     line.push_str("contest ");
     line.push_str(Buffer::new().format(contest));
     line.push_str(if upheld { " upheld" } else { " not upheld" });
@@ -59,28 +68,37 @@ fn outcome_line(contest: u8, upheld: bool) -> ArrayString<23>
     line
 }
 
-fn verdict_text(verdict: &Verdict) -> ArrayString<256>
+/// A line for each item, numbered from 1 on.
+fn each_line<T: Copy, F: Fn(u8, T) -> Line>(items: &[T], line: F) -> Text
+    requires callable { F.IsAlwaysCallable line }
+    requires few { length items.now ≤ 8 }
+    ensures text { (item : ℕ → T → List ℕ) → Writes (F.post line) item → result.bytes ≡ numbered item 1 items.now }
+    ensures room { array_string_len result ≤ 23 * length items.now }
+{
+    let mut text = Text::new();
+    for (i, item) in items.iter().enumerate() {
+        text.push_str(line(i as u8 + 1, *item).as_str());
+    }
+    text
+}
+
+#[tactic(auto, using(crate::proofs::Counts::verdict_count))]
+fn verdict_text(verdict: &Verdict) -> Text
     ensures text { result.bytes ≡ verdict_lines verdict.now }
     ensures lines { line_count (verdict_lines verdict.now) ≡ min verdict.now.contests 8 + 2 }
 {
-    let mut text = ArrayString::new();
-    for (i, risk) in verdict.contest_risks().iter().enumerate() {
-        text.push_str(risk_line(i as u8 + 1, *risk).as_str());
-    }
+    let mut text = each_line(verdict.contest_risks(), risk_line);
     text.push_str(draws_line(verdict.draws).as_str());
     text.push_str(finding_line(verdict.finding));
     text
 }
 
-fn closing_text(closing: &Closing) -> ArrayString<256>
+#[tactic(auto, using(crate::proofs::Counts::closing_count))]
+fn closing_text(closing: &Closing) -> Text
     ensures text { result.bytes ≡ closing_lines closing.now }
     ensures lines { line_count (closing_lines closing.now) ≡ min closing.now.contests 8 }
 {
-    let mut text = ArrayString::new();
-    for (i, upheld) in closing.contests_upheld().iter().enumerate() {
-        text.push_str(outcome_line(i as u8 + 1, *upheld).as_str());
-    }
-    text
+    each_line(closing.contests_upheld(), outcome_line)
 }
 
 /// The text to the front of `out`, or nothing where it does not fit; how many bytes it has.
@@ -98,6 +116,7 @@ fn print(text: &str, out: &mut [u8]) -> Result<usize, Refusal>
 
 /// The lines of a verdict to the front of `out`, or nothing where they do not fit; how many bytes
 /// they have. Contests above 8 count as 8.
+#[tactic(auto, using(crate::proofs::Telling::lines_tell))]
 pub fn report_verdict(verdict: &Verdict, out: &mut [u8]) -> Result<usize, Refusal>
     ensures answer { result ≡ report_answer (verdict_lines verdict.now) out.old }
     ensures out { out.new ≡ reported (verdict_lines verdict.now) out.old }

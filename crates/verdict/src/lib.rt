@@ -15,7 +15,6 @@ pub enum Finding {
 }
 
 /// The state of an audit after some draws.
-// A plain array, since an answer is copied into the caller's memory, and an `ArrayVec` is not `Copy`.
 #[derive(Clone, Copy, PartialEq, Eq, Debug)]
 pub struct Verdict {
     pub finding: Finding,
@@ -23,6 +22,7 @@ pub struct Verdict {
     /// How many contests there are; the places of `risks` beyond them say nothing.
     pub contests: u8,
     /// The risk of each contest in thousandths, the first contest's in place 0.
+    // An array: an answer is copied into the caller's memory, and an `ArrayVec` is not `Copy`.
     pub risks: [u16; 8],
 }
 
@@ -40,12 +40,12 @@ impl Verdict {
 }
 
 /// What a full hand count found.
-// A plain array, as in a verdict.
 #[derive(Clone, Copy, PartialEq, Eq, Debug)]
 pub struct Closing {
     /// How many contests there are; the places of `upheld` beyond them say nothing.
     pub contests: u8,
     /// Does the count give the reported winners? The first contest's answer is in place 0.
+    // An array, as in a verdict.
     pub upheld: [bool; 8],
 }
 
