@@ -11,7 +11,7 @@ use Rattle.ballot.specs.declared.Batch.{Batch}
 use Rattle.ballot.specs.declared.Candidate.{Candidate}
 use Rattle.ballot.specs.declared.Contest.{Contest}
 use Rattle.ballot.specs.Contests.{contest_from}
-use Rattle.format.specs.Format.{Cmd, batch, terms, contest, candidate, opens, entry, verdict, escalate, count, close}
+use Rattle.format.specs.Format.{Cmd, batch, terms, contest, candidate, opens}
 use Rattle.setup.specs.declared.progress.Progress.{Progress}
 use Rattle.setup.specs.Reading.{HeldLists, Stepped, admits, batch_objection, candidate_objection, contest_objection, after_batch, after_contest, after_candidate, step, step_contest, with_item}
 use Rattle.setup.specs.Accepted.{adds, lists_after, lists_with}
@@ -78,11 +78,7 @@ added ls bs xs cs p q (candidate name votes) a =
     simp append-nil
     (ap (λ (z : Held Candidate). record { batches = filled bs ls.batches.memory; contests = filled xs ls.contests.memory; candidates = z }) g)
 added ls bs xs cs p q opens a = nothing_added ls bs xs cs
-added ls bs xs cs p q (entry place found marks) a = absurd (cc)
-added ls bs xs cs p q verdict a = absurd (cc)
-added ls bs xs cs p q escalate a = absurd (cc)
-added ls bs xs cs p q (count place found marks) a = absurd (cc)
-added ls bs xs cs p q close a = absurd (cc)
+added ls bs xs cs p q _ a = absurd (cc)
 
 after_one : (ls : HeldLists) (front : List Cmd) (m : Cmd) →
     lists_with ls (flat_map (λ k. (adds k).batches) front ++ (adds m).batches) (flat_map (λ k. (adds k).contests) front ++ (adds m).contests)

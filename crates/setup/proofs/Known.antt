@@ -17,7 +17,7 @@ use Rattle.ballot.specs.Winners.{VotesFit, all_votes, has_winners, votes_fit, vo
 use Rattle.ballot.proofs.Described.{described_from}
 use Rattle.format.specs.declared.command.Phase.{Phase}
 use Rattle.format.specs.declared.command.Phase.TheVariants as at
-use Rattle.format.specs.Format.{Cmd, batch, terms, contest, candidate, opens, entry, verdict, escalate, count, close, allowed, code}
+use Rattle.format.specs.Format.{Cmd, batch, terms, contest, candidate, opens, allowed, code}
 use Rattle.setup.specs.declared.progress.Progress.{Progress}
 use Rattle.setup.specs.declared.setup.PolicyChoice.{PolicyChoice}
 use Rattle.setup.specs.declared.setup.PolicyChoice.TheVariants.{Fixed, Shrinking}
@@ -385,62 +385,31 @@ module _ (ls : HeldLists) (q : Progress) (mid : HeldLists) where
   from_start : (m : Cmd) → allowed at.Start (code m) ≡ true →
       step nothing_read (lists_with ls [] [] []) m ≡ record { answer = Ok q; lists = mid } → Known ls q mid (m ∷ [])
   from_start (batch name cards) w e = known_batch [] at.Start name cards tt e
-  from_start (terms r d policy weight) w e = absurd (cc)
-  from_start (contest kind c k u v) w e = absurd (cc)
-  from_start (candidate name votes) w e = absurd (cc)
-  from_start opens w e = absurd (cc)
-  from_start (entry place found marks) w e = absurd (cc)
-  from_start verdict w e = absurd (cc)
-  from_start escalate w e = absurd (cc)
-  from_start (count place found marks) w e = absurd (cc)
-  from_start close w e = absurd (cc)
+  from_start _ w e = absurd (cc)
 
   from_batches : (bs : List Batch) → BatchesFit bs → length bs ≤ length ls.batches.memory → (m : Cmd) → allowed at.Batches (code m) ≡ true →
       step (made at.Batches (cards_in bs) nothing_read.terms 0 nothing_read.contest 0) (lists_with ls bs [] []) m ≡ record { answer = Ok q; lists = mid } →
       Known ls q mid (map batch_command bs ++ (m ∷ []))
   from_batches bs fit place' (batch name cards) w e = known_batch bs at.Batches name cards fit.none_empty e
   from_batches bs fit place' (terms r d policy weight) w e = known_terms bs r d policy weight (terms_from r d policy weight) refl fit place' e
-  from_batches bs fit place' (contest kind c k u v) w e = absurd (cc)
-  from_batches bs fit place' (candidate name votes) w e = absurd (cc)
-  from_batches bs fit place' opens w e = absurd (cc)
-  from_batches bs fit place' (entry place found marks) w e = absurd (cc)
-  from_batches bs fit place' verdict w e = absurd (cc)
-  from_batches bs fit place' escalate w e = absurd (cc)
-  from_batches bs fit place' (count place found marks) w e = absurd (cc)
-  from_batches bs fit place' close w e = absurd (cc)
+  from_batches bs fit place' _ w e = absurd (cc)
 
   from_terms : (bs : List Batch) (t : Terms) → Head ls bs t → (m : Cmd) → allowed at.Terms (code m) ≡ true →
       step (made at.Terms (cards_in bs) t 0 nothing_read.contest 0) (lists_with ls bs [] []) m ≡ record { answer = Ok q; lists = mid } →
       Known ls q mid (head bs t [] ++ (m ∷ []))
-  from_terms bs t hd (batch name cards) w e = absurd (cc)
-  from_terms bs t hd (terms r d policy weight) w e = absurd (cc)
   from_terms bs t hd (contest kind c k u v) w e =
       known_contest bs t [] [] nothing_read.contest at.Terms kind c k u v (contest_from kind c k u v) refl hd
       (record { stand = refl; few = omega arith; assertions = omega arith; contests_placed = omega arith; candidates_placed = omega arith }) e
-  from_terms bs t hd (candidate name votes) w e = absurd (cc)
-  from_terms bs t hd opens w e = absurd (cc)
-  from_terms bs t hd (entry place found marks) w e = absurd (cc)
-  from_terms bs t hd verdict w e = absurd (cc)
-  from_terms bs t hd escalate w e = absurd (cc)
-  from_terms bs t hd (count place found marks) w e = absurd (cc)
-  from_terms bs t hd close w e = absurd (cc)
+  from_terms bs t hd _ w e = absurd (cc)
 
   from_contest : (bs : List Batch) (t : Terms) (xs : List Contest) (cs : List Candidate) (x : Contest) (own : List Candidate) → Head ls bs t →
       Begun ls (cards_in bs) xs cs x own → (m : Cmd) → allowed at.Candidates (code m) ≡ true →
       step (made at.Candidates (cards_in bs) t (assertions_in xs + assertion_count x) x (length own)) (lists_with ls bs (xs ++ x ∷ []) (cs ++ own)) m
       ≡ record { answer = Ok q; lists = mid } →
       Known ls q mid (head bs t (contest_commands xs cs ++ (contest_command x ∷ map candidate_command own)) ++ (m ∷ []))
-  from_contest bs t xs cs x own hd bg (batch name cards) w e = absurd (cc)
-  from_contest bs t xs cs x own hd bg (terms r d policy weight) w e = absurd (cc)
-  from_contest bs t xs cs x own hd bg (contest kind c k u v) w e = absurd (cc)
   from_contest bs t xs cs x own hd bg (candidate name votes) w e =
       known_candidate bs t xs cs x own name votes (leb x.candidates (length own + 1)) refl hd bg e
-  from_contest bs t xs cs x own hd bg opens w e = absurd (cc)
-  from_contest bs t xs cs x own hd bg (entry place found marks) w e = absurd (cc)
-  from_contest bs t xs cs x own hd bg verdict w e = absurd (cc)
-  from_contest bs t xs cs x own hd bg escalate w e = absurd (cc)
-  from_contest bs t xs cs x own hd bg (count place found marks) w e = absurd (cc)
-  from_contest bs t xs cs x own hd bg close w e = absurd (cc)
+  from_contest bs t xs cs x own hd bg _ w e = absurd (cc)
 
   known_opening : (bs : List Batch) (t : Terms) (xs : List Contest) (cs : List Candidate) (x : Contest) → Head ls bs t → Body ls (cards_in bs) xs cs →
       1 ≤ length xs →
@@ -466,17 +435,10 @@ module _ (ls : HeldLists) (q : Progress) (mid : HeldLists) where
       1 ≤ length xs → (m : Cmd) → allowed at.Contests (code m) ≡ true →
       step (made at.Contests (cards_in bs) t (assertions_in xs) x 0) (lists_with ls bs xs cs) m ≡ record { answer = Ok q; lists = mid } →
       Known ls q mid (head bs t (contest_commands xs cs) ++ (m ∷ []))
-  from_between bs t xs cs x hd bd some (batch name cards) w e = absurd (cc)
-  from_between bs t xs cs x hd bd some (terms r d policy weight) w e = absurd (cc)
   from_between bs t xs cs x hd bd some (contest kind c k u v) w e =
       known_contest bs t xs cs x at.Contests kind c k u v (contest_from kind c k u v) refl hd bd e
-  from_between bs t xs cs x hd bd some (candidate name votes) w e = absurd (cc)
   from_between bs t xs cs x hd bd some opens w e = known_opening bs t xs cs x hd bd some e
-  from_between bs t xs cs x hd bd some (entry place found marks) w e = absurd (cc)
-  from_between bs t xs cs x hd bd some verdict w e = absurd (cc)
-  from_between bs t xs cs x hd bd some escalate w e = absurd (cc)
-  from_between bs t xs cs x hd bd some (count place found marks) w e = absurd (cc)
-  from_between bs t xs cs x hd bd some close w e = absurd (cc)
+  from_between bs t xs cs x hd bd some _ w e = absurd (cc)
 
   known_step : {p : Progress} {l : HeldLists} {ms : List Cmd} → Known ls p l ms → (m : Cmd) → opened p.phase ≡ false → allowed p.phase (code m) ≡ true →
       step p l m ≡ record { answer = Ok q; lists = mid } → Known ls q mid (ms ++ (m ∷ []))
@@ -504,10 +466,6 @@ pub record Opened (ls : HeldLists) (p : Progress) (l : HeldLists) (ms : List Cmd
   pub commands_are : ms ≡ commands setup
 
 pub known_opened : (ls : HeldLists) (p : Progress) (l : HeldLists) (ms : List Cmd) → Known ls p l ms → opened p.phase ≡ true → Opened ls p l ms
-known_opened ls p l ms at_start o = absurd (cc)
-known_opened ls p l ms (in_batches bs fit placed) o = absurd (cc)
-known_opened ls p l ms (at_terms bs t hd) o = absurd (cc)
-known_opened ls p l ms (in_contest bs t xs cs x own hd bg) o = absurd (cc)
-known_opened ls p l ms (between bs t xs cs x hd bd some) o = absurd (cc)
 known_opened ls p l ms (at_opening d x w h) o =
     record { setup = d; limits = w; places = h; numbers_are = refl; lists_are = refl; commands_are = refl }
+known_opened ls p l ms _ o = absurd (cc)

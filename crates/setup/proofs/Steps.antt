@@ -3,7 +3,7 @@ use Rattle.std.proofs.Common.{◌≡◌, ℕ, ◌+◌, ◌<◌, ◌≤◌, true,
 use borrow.Author.Tests.{lt-leb}
 use Rattle.std.proofs.lemmas.Bool.Decides.{nat_tests}
 use Rattle.refusal.specs.declared.Refusal.{Refusal}
-use Rattle.bounded.specs.Lists.{Held, appended, filled, has_room}
+use Rattle.bounded.specs.Lists.{Held, filled, has_room}
 use Rattle.bounded.proofs.Filled.{room_filled, appended_filled}
 use Rattle.ballot.specs.declared.Batch.{Batch}
 use Rattle.ballot.specs.declared.Candidate.{Candidate}
@@ -25,16 +25,12 @@ use Rattle.setup.specs.Accepted.{lists_with}
 abbrev pub made : Phase → ℕ → Terms → ℕ → Contest → ℕ → Progress
 made ph n t a x r = record { phase = ph; cards = n; terms = t; assertions = a; contest = x; read = r }
 
--- There is a place after these items.
-pub room_after : {T : Type 0} (xs memory : List T) → length xs < length memory → has_room (filled xs memory) ≡ true
-room_after xs memory h = room_filled xs memory (omega arith) ∙ lt-ltb (length xs) (length memory) h
-
--- What no rule objects to is admitted where there is room.
-admitted : {T : Type 0} (o : Option Refusal) (h : Held T) (p : Progress) → o ≡ None → has_room h ≡ true → admits o h p ≡ Ok p
-admitted o h p e f = simp (e, f)
-
-kept : {T : Type 0} (o : Option Refusal) (h : Held T) (x : T) → o ≡ None → with_item o h x ≡ appended h x
-kept o h x e = simp e
+-- What no rule objects to is admitted where there is a place, and fills it.
+taken : {T : Type 0} (o : Option Refusal) (xs memory : List T) (x : T) (p : Progress) → o ≡ None → length xs < length memory →
+    (admits o (filled xs memory) p ≡ Ok p) × (with_item o (filled xs memory) x ≡ filled (xs ++ x ∷ []) memory)
+taken o xs memory x p e h =
+    let room : has_room (filled xs memory) ≡ true = room_filled xs memory (omega arith) ∙ lt-ltb (length xs) (length memory) h in
+    (simp (e, room), simp e (appended_filled xs memory x h))
 
 same_step : (r r' : Result Progress Refusal) (l l' : HeldLists) → r ≡ r' → l ≡ l' →
     ◌≡◌ {A = Stepped} (record { answer = r; lists = l }) (record { answer = r'; lists = l' })
@@ -68,13 +64,11 @@ module _ (ls : HeldLists) (ph : Phase) (n : ℕ) (t : Terms) (a : ℕ) (x : Cont
       step (made ph n t a x r) (lists_with ls bs xs cs) (batch_command b)
       ≡ record { answer = Ok (made at.Batches (n + b.cards) t a x r); lists = lists_with ls (bs ++ b ∷ []) xs cs }
   step_on_batch b some few fit place =
-      let h = filled bs ls.batches.memory in
       let e : (eqb b.cards 0 || leb 200 (length bs) || ltb 65535 (n + b.cards)) ≡ false = grind (arith, nat_tests) in
       let o : batch_objection (length bs) n b ≡ None = simp e in
-      let f = room_after bs ls.batches.memory place in
-      let g = kept (batch_objection (length bs) n b) h b o ∙ appended_filled bs ls.batches.memory b place in
-      same_step _ _ _ _ (admitted (batch_objection (length bs) n b) h (made at.Batches (n + b.cards) t a x r) o f)
-      (ap (λ (z : Held Batch). record { batches = z; contests = filled xs ls.contests.memory; candidates = filled cs ls.candidates.memory }) g)
+      let g = taken (batch_objection (length bs) n b) bs ls.batches.memory b (made at.Batches (n + b.cards) t a x r) o place in
+      same_step _ _ _ _ g.0
+      (ap (λ (z : Held Batch). record { batches = z; contests = filled xs ls.contests.memory; candidates = filled cs ls.candidates.memory }) g.1)
 
   pub step_on_terms : (u : Terms) → TermsFit u →
       step (made ph n t a x r) (lists_with ls bs xs cs) (terms_command u)
@@ -86,27 +80,23 @@ module _ (ls : HeldLists) (ph : Phase) (n : ℕ) (t : Terms) (a : ℕ) (x : Cont
       step (made ph n t a x r) (lists_with ls bs xs cs) (contest_command y)
       ≡ record { answer = Ok (made at.Candidates n t (a + assertion_count y) y 0); lists = lists_with ls bs (xs ++ y ∷ []) cs }
   step_on_contest y h few fit place =
-      let k = filled xs ls.contests.memory in
       let e : leb 8 (length xs) ≡ false = lt-leb 8 (length xs) few in
       let l : ltb 256 (a + assertion_count y) ≡ false = le-ltb 256 (a + assertion_count y) fit in
       let o : contest_objection (length xs) a y ≡ None = simp (e, l) in
-      let f = room_after xs ls.contests.memory place in
-      let g = kept (contest_objection (length xs) a y) k y o ∙ appended_filled xs ls.contests.memory y place in
+      let g = taken (contest_objection (length xs) a y) xs ls.contests.memory y (made at.Candidates n t (a + assertion_count y) y 0) o place in
       ap (step_contest (made ph n t a x r) (lists_with ls bs xs cs)) (contest_back y h)
-      ∙ same_step _ _ _ _ (admitted (contest_objection (length xs) a y) k (made at.Candidates n t (a + assertion_count y) y 0) o f)
-      (ap (λ (z : Held Contest). record { batches = filled bs ls.batches.memory; contests = z; candidates = filled cs ls.candidates.memory }) g)
+      ∙ same_step _ _ _ _ g.0
+      (ap (λ (z : Held Contest). record { batches = filled bs ls.batches.memory; contests = z; candidates = filled cs ls.candidates.memory }) g.1)
 
   step_by_objection : (c : Candidate) (q : Progress) → candidate_objection (made ph n t a x r) cs c ≡ None →
       after_candidate (made ph n t a x r) ≡ q → length cs < length ls.candidates.memory →
       step (made ph n t a x r) (lists_with ls bs xs cs) (candidate_command c)
       ≡ record { answer = Ok q; lists = lists_with ls bs xs (cs ++ c ∷ []) }
   step_by_objection c q o after place =
-      let k = filled cs ls.candidates.memory in
-      let f = room_after cs ls.candidates.memory place in
       let p = made ph n t a x r in
-      let g = kept (candidate_objection p cs c) k c o ∙ appended_filled cs ls.candidates.memory c place in
-      same_step _ _ _ _ (admitted (candidate_objection p cs c) k (after_candidate p) o f ∙ ap Ok after)
-      (ap (λ (z : Held Candidate). record { batches = filled bs ls.batches.memory; contests = filled xs ls.contests.memory; candidates = z }) g)
+      let g = taken (candidate_objection p cs c) cs ls.candidates.memory c (after_candidate p) o place in
+      same_step _ _ _ _ (g.0 ∙ ap Ok after)
+      (ap (λ (z : Held Candidate). record { batches = filled bs ls.batches.memory; contests = filled xs ls.contests.memory; candidates = z }) g.1)
 
   pub step_on_candidate : (c : Candidate) → c.votes ≤ n → r + 1 < x.candidates → length cs < length ls.candidates.memory →
       step (made ph n t a x r) (lists_with ls bs xs cs) (candidate_command c)

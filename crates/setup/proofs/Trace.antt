@@ -9,7 +9,7 @@ use Rattle.ballot.specs.declared.Batch.{Batch}
 use Rattle.ballot.specs.declared.Candidate.{Candidate}
 use Rattle.ballot.specs.declared.Contest.{Contest}
 use Rattle.ballot.specs.Contests.{contest_from}
-use Rattle.format.specs.Format.{Cmd, batch, terms, contest, candidate, opens, entry, verdict, escalate, count, close, Taken, next}
+use Rattle.format.specs.Format.{Cmd, batch, contest, candidate, Taken, next}
 use Rattle.format.proofs.Writing.{taken_as_written, shorter}
 use Rattle.setup.specs.declared.progress.Progress.{Progress}
 use Rattle.setup.specs.Described.{WrittenBefore}
@@ -41,18 +41,12 @@ refused_stays p ls (batch name cards) e a =
     let b : Batch = record { name = name; cards = cards } in
     let k = item_stays (batch_objection (length ls.batches.items) p.cards b) ls.batches b _ e a in
     ap (λ (z : Held Batch). record { batches = z; contests = ls.contests; candidates = ls.candidates }) k
-refused_stays p ls (terms r d policy weight) e a = refl
 refused_stays p ls (contest kind c k s q) e a = contest_stays p ls (contest_from kind c k s q) e a
 refused_stays p ls (candidate name votes) e a =
     let c : Candidate = record { name = name; votes = votes } in
     let k = item_stays (candidate_objection p ls.candidates.items c) ls.candidates c _ e a in
     ap (λ (z : Held Candidate). record { batches = ls.batches; contests = ls.contests; candidates = z }) k
-refused_stays p ls opens e a = refl
-refused_stays p ls (entry place found marks) e a = refl
-refused_stays p ls verdict e a = refl
-refused_stays p ls escalate e a = refl
-refused_stays p ls (count place found marks) e a = refl
-refused_stays p ls close e a = refl
+refused_stays p ls _ e a = refl
 
 -- ---- the end of a reading
 
