@@ -35,12 +35,14 @@ pub(crate) fn terms_from(risk_limit: u16, draw_limit: u16, policy: u8, weight: u
     ensures { result ≡ terms_from risk_limit draw_limit policy weight }
 {
     let policy = policy_from(policy, weight)?;
-    let in_range = (10..=500).contains(&risk_limit) && (1..=20_000).contains(&draw_limit);
-    in_range.then_some(Terms {
-        risk_limit,
-        draw_limit,
-        policy,
-    })
+    if (10..=500).contains(&risk_limit) && (1..=20_000).contains(&draw_limit) {
+        return Some(Terms {
+            risk_limit,
+            draw_limit,
+            policy,
+        });
+    }
+    None
 }
 
 /// Tests one contest more, after so many contests and assertions.
