@@ -12,6 +12,7 @@ pub(crate) fn print_terms(rt: &HostRuntime, setup: &Setup, batches: &[Batch]) ->
     let cards = Many(setup.cards as usize, "card", "cards");
     let count = Many(setup.batches, "batch", "batches");
     println!(rt; "{cards} in {count}")?;
+    // A line needs the cards before its batch, so the sum grows from line to line.
     let mut before: u32 = 0;
     for batch in batches {
         let name = Name(batch.name);
