@@ -24,6 +24,7 @@ pub fn payoff(stake: u64, half: u16, value: u16) -> u128
 }
 
 /// The same of a stake that a bet above 1,000 thousandths would make, which no policy does.
+// Apart from `payoff`, which asks nothing of its caller: times a value, not every u128 fits.
 #[tactic(auto, using(crate::proofs::Pencil::payoff_le, crate::proofs::Pencil::payoff_pencil))]
 fn wide_payoff(stake: u128, half: u16, value: u16) -> u128
     requires { stake < 2 ^ 80 }

@@ -24,6 +24,7 @@ pub fn start_records(
     if records.len() < planned.len() {
         return Err(Refusal::NoRoom);
     }
+    // By places, since a zip with `records.iter_mut()` leaves nothing proved of the records.
     for (i, next) in planned.iter().enumerate() {
         records[i] = Record::start(next.assertion, first_policy(next, policy));
     }
@@ -32,6 +33,7 @@ pub fn start_records(
 
 /// The same of the caller's own assorters and policies, in assertion order: the first `count` of
 /// each. Too few records, assorters or policies are refused, and then nothing changes.
+// Apart from `start_records`, which makes each policy from what is planned, and holds no list of them.
 pub fn start_with<A: Copy, P: Policy + Copy>(
     count: usize,
     assorters: &[A],
@@ -46,6 +48,7 @@ pub fn start_with<A: Copy, P: Policy + Copy>(
     if records.len() < count || assorters.len() < count || policies.len() < count {
         return Err(Refusal::NoRoom);
     }
+    // By places too: after a zip of the three lists the same is left to prove.
     for (i, held) in records[..count].iter_mut().enumerate() {
         *held = Record::start(assorters[i], policies[i]);
     }
