@@ -23,19 +23,6 @@ mod tests {
     use refusal::Refusal;
     use std::test::Fail;
 
-    fn blank() -> Planned {
-        let share = Share {
-            contest: 0,
-            winner: 0,
-            p: 1,
-            q: 2,
-        };
-        Planned {
-            assertion: Assertion::Share(share),
-            first_bet: 0,
-        }
-    }
-
     fn board(votes: [u16; 3]) -> [Candidate; 3] {
         let name = *b"ADAMS   ";
         let [a, b, c] = votes;
@@ -53,7 +40,7 @@ mod tests {
             candidates: 3,
             seats: 1,
         }];
-        let mut slots = [blank(); 3];
+        let mut slots = [Planned::BLANK; 3];
         let mut out = List::over(&mut slots);
         list_assertions(&contests, &board([40, 60, 0]), &mut out)?;
         assert_eq!(rt; out.len(), 2);
@@ -77,7 +64,7 @@ mod tests {
             candidates: 3,
             seats: 2,
         }];
-        let mut slots = [blank(); 1];
+        let mut slots = [Planned::BLANK; 1];
         let mut out = List::over(&mut slots);
         let tied = list_assertions(&contests, &board([60, 40, 40]), &mut out);
         assert_eq!(rt; tied, Err(Refusal::NoSetup));

@@ -4,9 +4,11 @@
 
 pub mod limits;
 mod operands;
+mod slates;
 mod winners;
 
 pub use operands::assertions_of;
+pub use slates::each_slate;
 pub use winners::all_votes;
 
 /// A batch of the ballot manifest.
