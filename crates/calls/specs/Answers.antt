@@ -1,5 +1,6 @@
 -- The code's calls and answers in the words of an audit's course.
-use Rattle.std.specs.Prelude.{List}
+use Rattle.std.specs.Prelude.{List, Ok, Err, Result}
+use Rattle.refusal.specs.declared.Refusal.{Refusal}
 use Rattle.verdict.specs.Contests.{contest_risks, contests_upheld}
 use Rattle.betting.specs.Accounts.{Account}
 use Rattle.course.specs.Course as course
@@ -7,7 +8,7 @@ use Rattle.course.specs.Course.{Call, State}
 use Rattle.course.specs.Course.Call.{entry, verdict, hand_count, closing}
 use Rattle.course.specs.Course.Answer.{refused, taken, finding, upheld}
 use Rattle.calls.specs.declared.answers.Answer.{Answer}
-use Rattle.calls.specs.declared.answers.Answer.TheVariants.{Refused, Taken, Finding, Upheld}
+use Rattle.calls.specs.declared.answers.Answer.TheVariants.{Taken, Finding, Upheld}
 use Rattle.calls.specs.declared.answers.CountCall.{CountCall}
 use Rattle.calls.specs.declared.answers.CountCall.TheVariants.{Count, Close}
 use Rattle.calls.specs.declared.answers.DrawCall.{DrawCall}
@@ -27,10 +28,13 @@ count_call (Count x) = hand_count (shown_of x)
 count_call Close = closing
 
 abbrev pub answer_of : Answer → course.Answer
-answer_of (Refused e) = refused e
 answer_of Taken = taken
 answer_of (Finding v) = finding v.finding v.draws (contest_risks v)
 answer_of (Upheld c) = upheld (contests_upheld c)
+
+abbrev pub answer_or : Result Answer Refusal → course.Answer
+answer_or (Ok a) = answer_of a
+answer_or (Err e) = refused e
 
 abbrev pub standing_terms : Standing → Terms
 standing_terms (Drawing a) = a.terms

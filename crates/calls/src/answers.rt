@@ -4,7 +4,6 @@ ghost use Rattle.calls.specs.Shapes.{found_card, shown_of};
 
 use crate::states::{Audit, HandCount};
 use ballot::Card;
-use refusal::Refusal;
 use verdict::{Closing, Verdict};
 
 /// A place, 1 if the card was found there and 0 if it is missing, and the card.
@@ -43,10 +42,9 @@ pub enum CountCall {
     Count(Shown),
 }
 
-/// What a call answers.
+/// What a call answers that is not refused.
 #[derive(Clone, Copy, PartialEq, Eq, Debug)]
 pub enum Answer {
-    Refused(Refusal),
     /// The card was entered or counted, or the escalation was granted.
     Taken,
     Finding(Verdict),

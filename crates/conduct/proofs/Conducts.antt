@@ -1,6 +1,7 @@
 -- A list of calls, one call at a time.
-use Rattle.std.proofs.Common.{◌≡◌, ℕ, ◌+◌, ◌<◌, ◌≤◌, List, [], ◌∷◌, ◌++◌, map, length, get_or, take, drop, set, Some, sum, sym, ap, ◌∙◌}
-use Rattle.std.proofs.lemmas.List.{append_assoc, append-nil, drop_all, drop_more, map-append, take_more_set}
+use Rattle.std.proofs.Common.{◌≡◌, ℕ, ◌+◌, ◌<◌, ◌≤◌, List, [], ◌∷◌, ◌++◌, map, length, get_or, take, drop, set, Some, sum, Result, sym, ap, ◌∙◌}
+use Rattle.std.proofs.lemmas.List.{append_assoc, drop_more, map-append, take_more_set}
+use Rattle.refusal.specs.declared.Refusal.{Refusal}
 use Rattle.refusal.specs.declared.Refusal.TheVariants.{NoRoom}
 use Rattle.course.specs.Terms.{Terms}
 use Rattle.course.specs.Course.{Rules, State, Call, answered, refusal_of, step, unless_refused}
@@ -8,7 +9,7 @@ use Rattle.course.specs.Course as course
 use Rattle.course.specs.Laws.{left_by}
 use Rattle.calls.specs.declared.terms.Terms as calls
 use Rattle.calls.specs.declared.answers.Answer.{Answer}
-use Rattle.calls.specs.Answers.{answer_of}
+use Rattle.calls.specs.Answers.{answer_or}
 use Rattle.calls.specs.Calls.{called}
 use Rattle.conduct.specs.Conducts.{answers_by}
 use Rattle.calls.specs.Shapes.{terms_of}
@@ -16,37 +17,28 @@ use Rattle.calls.proofs.Refusals.{enough}
 
 module _ {A S : Type 0} (R : Rules A S) (t : Terms) (σ₀ : State A S) (cs : List Call) where
   -- after i calls the audit is at σ, and out has their answers
-  pub record SoFar (i : ℕ) (σ : State A S) (out : List Answer) : Type 0 where
-    pub told : answers_by R t σ₀ cs ≡ map answer_of (take i out) ++ answers_by R t σ (drop i cs)
+  pub record SoFar (i : ℕ) (σ : State A S) (out : List (Result Answer Refusal)) : Type 0 where
+    pub told : answers_by R t σ₀ cs ≡ map answer_or (take i out) ++ answers_by R t σ (drop i cs)
     pub left : left_by R t σ₀ cs ≡ left_by R t σ (drop i cs)
 
   pub so_far_more :
-      (i : ℕ) (σ σ' : State A S) (out : List Answer) (c : Call) (a : Answer) → i < length cs → i < length out →
-      SoFar i σ out → (σ', answer_of a) ≡ step R t σ (get_or cs i c) → SoFar (i + 1) σ' (set out i a)
+      (i : ℕ) (σ σ' : State A S) (out : List (Result Answer Refusal)) (c : Call) (a : Result Answer Refusal) → i < length cs → i < length out →
+      SoFar i σ out → (σ', answer_or a) ≡ step R t σ (get_or cs i c) → SoFar (i + 1) σ' (set out i a)
   so_far_more i σ σ' out c a in-cs in-out so new =
       let d = get_or cs i c in
       let rest = drop (i + 1) cs in
       let split : drop i cs ≡ d ∷ rest = drop_more cs i c in-cs in
-      let now : step R t σ d ≡ (σ', answer_of a) = sym new in
+      let now : step R t σ d ≡ (σ', answer_or a) = sym new in
       record {
         told =
             so.told
-            ∙ ap (λ xs. map answer_of (take i out) ++ answers_by R t σ xs) split
-            ∙ ap (λ x. map answer_of (take i out) ++ (x.1 ∷ answers_by R t x.0 rest)) now
-            ∙ sym (append_assoc (map answer_of (take i out)) (answer_of a ∷ []) (answers_by R t σ' rest))
-            ∙ ap (λ xs. xs ++ answers_by R t σ' rest) (sym (map-append answer_of (take i out) (a ∷ [])))
-            ∙ ap (λ xs. map answer_of xs ++ answers_by R t σ' rest) (sym (take_more_set out i a in-out));
+            ∙ ap (λ xs. map answer_or (take i out) ++ answers_by R t σ xs) split
+            ∙ ap (λ x. map answer_or (take i out) ++ (x.1 ∷ answers_by R t x.0 rest)) now
+            ∙ sym (append_assoc (map answer_or (take i out)) (answer_or a ∷ []) (answers_by R t σ' rest))
+            ∙ ap (λ xs. xs ++ answers_by R t σ' rest) (sym (map-append answer_or (take i out) (a ∷ [])))
+            ∙ ap (λ xs. map answer_or xs ++ answers_by R t σ' rest) (sym (take_more_set out i a in-out));
         left = so.left ∙ ap (left_by R t σ) split ∙ ap (λ x. left_by R t x.0 rest) now;
       }
-
-  pub so_far_all :
-      (i : ℕ) (σ : State A S) (out : List Answer) → length cs ≤ i → SoFar i σ out →
-      (map answer_of (take i out) ≡ answers_by R t σ₀ cs) × (σ ≡ left_by R t σ₀ cs)
-  so_far_all i σ out h so =
-      let none : drop i cs ≡ [] = drop_all i cs h in (
-        sym (so.told ∙ ap (λ xs. map answer_of (take i out) ++ answers_by R t σ xs) none ∙ append-nil (map answer_of (take i out))),
-        sym (so.left ∙ ap (left_by R t σ) none),
-      )
 
 -- with its records lent, and the terms as they were, a call is a step of the course
 pub as_step :

@@ -16,7 +16,7 @@ use Rattle.conduct.specs.declared.outcome.NotConducted.{NotConducted}
 use Rattle.calls.specs.declared.answers.Standing.{Standing}
 use Rattle.calls.specs.declared.answers.Standing.TheVariants.{Drawing, Counting}
 use Rattle.calls.specs.declared.states.Audit.{Audit}
-use Rattle.calls.specs.Answers.{answer_of, count_call, draw_call, standing_state, standing_terms}
+use Rattle.calls.specs.Answers.{answer_or, count_call, draw_call, standing_state, standing_terms}
 use Rattle.calls.specs.Calls.{audit_state}
 use Rattle.calls.specs.Shapes.{terms_of}
 
@@ -42,13 +42,13 @@ not_conducted (Err x) = Some x.refusal
 
 module _ {A S : Type 0} (R : Rules A S) (a : Audit) (before : List (Account A S)) (cs : List Call) where
   -- The calls were answered as the course has it, and the audit stands where the course leaves it.
-  pub record Conducted (standing : Standing) (after : List (Account A S)) (answers : List Answer) : Type 0 where
-    pub answered : map answer_of (take (length cs) answers) ≡ answers_by R (terms_of a.terms) (audit_state a before) cs
+  pub record Conducted (standing : Standing) (after : List (Account A S)) (answers : List (Result Answer Refusal)) : Type 0 where
+    pub answered : map answer_or (take (length cs) answers) ≡ answers_by R (terms_of a.terms) (audit_state a before) cs
     pub left : standing_state standing after ≡ left_by R (terms_of a.terms) (audit_state a before) cs
     pub same_terms : standing_terms standing ≡ a.terms
 
   -- A refusal gives the audit back.
-  abbrev pub Conducts : Result Standing NotConducted → List (Account A S) → List Answer → Type 0
+  abbrev pub Conducts : Result Standing NotConducted → List (Account A S) → List (Result Answer Refusal) → Type 0
   Conducts (Ok standing) after answers = Conducted standing after answers
   Conducts (Err x) after answers = x.audit ≡ a
 

@@ -3,6 +3,7 @@
 
 mod conducting;
 mod outcome;
+mod stage;
 
 pub use conducting::conduct;
 pub use outcome::NotConducted;

@@ -1,5 +1,5 @@
 -- One command more.
-use Rattle.std.proofs.Common.{◌≡◌, ℕ, true, List, [], ◌∷◌, ◌++◌, map, Some, None, Ok, Option, sym, refl, ap, ◌∙◌, subst}
+use Rattle.std.proofs.Common.{◌≡◌, ℕ, true, List, [], ◌∷◌, ◌++◌, map, Some, None, Ok, Err, Option, Result, sym, refl, ap, ◌∙◌, subst}
 use Rattle.std.specs.Option.{option_to_list}
 use Rattle.std.proofs.ByRecursion.{All-push}
 use Rattle.std.proofs.lemmas.List.{flat_map_more}
@@ -12,7 +12,10 @@ use Rattle.format.proofs.Writing.{taken_as_written}
 use Rattle.course.specs.Terms.{Terms}
 use Rattle.course.specs.Course.{Rules, State, Call, Answer, course, step}
 use Rattle.course.specs.Laws.{left_by}
-use Rattle.replay.specs.Following.{Asked}
+use Rattle.refusal.specs.declared.Refusal.{Refusal}
+use Rattle.calls.specs.declared.answers.Answer as calls
+use Rattle.calls.specs.declared.answers.Answer.TheVariants.{Finding, Taken, Upheld}
+use Rattle.replay.specs.Following.{AcceptsOr, Asked}
 use Rattle.replay.specs.Replays.{Accepts, Followed, InOrder, call_of, calls_of, phase_after}
 
 written_more :
@@ -71,3 +74,10 @@ module _ {A S : Type 0} (R : Rules A S) (t : Terms) where
 
     pub followed_more : Asked R t σ (call_of m) (τ, a) → Followed R t before file after (phase_after ph m) (ys ++ (a ∷ [])) τ
     followed_more = by_call (call_of m) refl
+
+-- What is answered without a refusal is never a refusal, since an answer is none.
+pub accepted : (r : Result calls.Answer Refusal) → AcceptsOr r
+accepted (Ok Taken) = tt
+accepted (Ok (Finding v)) = tt
+accepted (Ok (Upheld c)) = tt
+accepted (Err e) = tt

@@ -7,17 +7,12 @@ use Rattle.format.specs.declared.command.Phase.TheVariants as at
 use Rattle.course.specs.Terms.{Terms}
 use Rattle.course.specs.Course as course
 use Rattle.course.specs.Course.{Rules, State, Call, step}
-use Rattle.course.specs.Course.Answer.{refused}
 use Rattle.calls.specs.declared.answers.Answer.{Answer}
 use Rattle.calls.specs.declared.answers.Standing.{Standing}
 use Rattle.calls.specs.declared.answers.Standing.TheVariants.{Drawing, Counting}
 use Rattle.calls.specs.Answers.{answer_of}
 use Rattle.replay.specs.declared.draws.Replayed.{Replayed}
 use Rattle.replay.specs.Replays.{Accepts, StandsAt}
-
-abbrev pub answer_or : Result Answer Refusal → course.Answer
-answer_or (Ok a) = answer_of a
-answer_or (Err e) = refused e
 
 -- What is answered without a refusal is no refusal.
 abbrev pub AcceptsOr : Result Answer Refusal → Type 0

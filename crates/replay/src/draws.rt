@@ -36,16 +36,11 @@ fn stopped(
     rest: &[u8],
     refusal: Refusal,
 ) -> Replayed
-    requires { length rest.now ≤ length file.now }
     ensures { result ≡ stopped_at standing answered (length file.now) rest.now refusal }
 {
     Replayed {
         answered,
-        fault: Some(Fault {
-            refusal,
-            file: File::Draws,
-            offset: file.len() - rest.len(),
-        }),
+        fault: Some(Fault::at(File::Draws, file, rest, refusal)),
         standing,
     }
 }

@@ -1,16 +1,16 @@
 //! One command of a draws file.
 ghost use Rattle.std.specs.Prelude.{◌≡◌, ◌≤◌, true, map, length, drop};
 ghost use Rattle.betting.specs.Accounts.{account};
-ghost use Rattle.calls.specs.Answers.{standing_state, standing_terms};
+ghost use Rattle.calls.specs.Answers.{answer_or, standing_state, standing_terms};
 ghost use Rattle.calls.specs.Calls.{audit_state, count_state, KeptOnRefusal};
 ghost use Rattle.calls.specs.Shapes.{terms_of};
 ghost use Rattle.course.specs.Course.{rules_of};
 ghost use Rattle.format.specs.declared.command.Phase.TheVariants.{Counting, Drawing};
 ghost use Rattle.format.specs.Format.{allowed, code, meant};
-ghost use Rattle.replay.specs.Following.{AcceptsOr, answer_or, Asked, standing_phase, StandsAfter};
+ghost use Rattle.replay.specs.Following.{Asked, standing_phase, StandsAfter};
 ghost use Rattle.replay.specs.Replays.{call_of, phase_after};
 
-use crate::marks::card_from;
+use crate::marks::shown;
 use assorter::Assorter;
 use betting::{Policy, Record};
 use calls::{Answer, Audit, HandCount, Standing};
@@ -37,7 +37,6 @@ fn draw<A: Assorter + Copy, P: Policy + Copy>(
     requires order { allowed Drawing (code (meant command)) ≡ true }
     requires room { audit.old.terms.needed ≤ length records.old }
     ensures course { Asked (rules_of A.Assorter P.Policy) (terms_of audit.old.terms) (audit_state audit.old (map (account P.state) records.old)) (call_of (meant command.entry)) (audit_state audit.new (map (account P.state) records.new), answer_or result) }
-    ensures accepts { AcceptsOr result }
     ensures terms { audit.new.terms ≡ audit.old.terms }
     ensures beyond { drop audit.old.terms.needed records.new ≡ drop audit.old.terms.needed records.old }
     ensures kept { (KeptOnRefusal result audit.old audit.new) × (KeptOnRefusal result records.old records.new) }
@@ -48,10 +47,11 @@ fn draw<A: Assorter + Copy, P: Policy + Copy>(
             found,
             marks,
         } => {
-            audit.enter(records, place, found, &card_from(marks))?;
-            Ok(Answer::Taken)
+            audit
+                .enter(records, &shown(place, found, marks))
+                .map(|()| Answer::Taken)
         }
-        Command::Verdict => Ok(Answer::Finding(audit.verdict(records)?)),
+        Command::Verdict => audit.verdict(records).map(Answer::Finding),
         _ => Ok(Answer::Taken),
     }
 }
@@ -65,7 +65,6 @@ fn tally<A: Assorter + Copy, P: Policy + Copy>(
     requires order { allowed Counting (code (meant command)) ≡ true }
     requires room { hand.old.terms.needed ≤ length records.old }
     ensures course { Asked (rules_of A.Assorter P.Policy) (terms_of hand.old.terms) (count_state hand.old (map (account P.state) records.old)) (call_of (meant command.entry)) (count_state hand.new (map (account P.state) records.new), answer_or result) }
-    ensures accepts { AcceptsOr result }
     ensures terms { hand.new.terms ≡ hand.old.terms }
     ensures beyond { drop hand.old.terms.needed records.new ≡ drop hand.old.terms.needed records.old }
     ensures kept { (KeptOnRefusal result hand.old hand.new) × (KeptOnRefusal result records.old records.new) }
@@ -76,10 +75,10 @@ fn tally<A: Assorter + Copy, P: Policy + Copy>(
             found,
             marks,
         } => {
-            hand.count(records, place, found, &card_from(marks))?;
-            Ok(Answer::Taken)
+            hand.count(records, &shown(place, found, marks))
+                .map(|()| Answer::Taken)
         }
-        _ => Ok(Answer::Upheld(hand.close(records)?)),
+        _ => hand.close(records).map(Answer::Upheld),
     }
 }
 
@@ -92,7 +91,6 @@ pub(crate) fn follow<A: Assorter + Copy, P: Policy + Copy>(
     requires order { allowed (standing_phase standing) (code (meant command)) ≡ true }
     requires room { (standing_terms standing).needed ≤ length records.old }
     ensures course { Asked (rules_of A.Assorter P.Policy) (terms_of (standing_terms standing)) (standing_state standing (map (account P.state) records.old)) (call_of (meant command.entry)) (standing_state result.0 (map (account P.state) records.new), answer_or result.1) }
-    ensures accepts { AcceptsOr result.1 }
     ensures stands { StandsAfter result.1 (phase_after (standing_phase standing) (meant command.entry)) result.0 }
     ensures terms { standing_terms result.0 ≡ standing_terms standing }
     ensures beyond { drop (standing_terms standing).needed records.new ≡ drop (standing_terms standing).needed records.old }

@@ -1,8 +1,11 @@
-//! The marks of a card as a draws file has them.
+//! What a draws file shows of a card.
 ghost use Rattle.std.specs.Prelude.{◌≡◌, ◌+◌, ◌≤◌};
+ghost use Rattle.calls.specs.Shapes.{shown, shown_of};
 ghost use Rattle.replay.specs.Replays.{card_of, four};
 
 use ballot::Card;
+use calls::Shown;
+use std::array;
 
 /// Four bytes as a number, the most significant first.
 fn number(bytes: &[u8; 32], at: usize) -> u32
@@ -13,19 +16,18 @@ fn number(bytes: &[u8; 32], at: usize) -> u32
 }
 
 /// The card whose marks the bytes are.
-pub(crate) fn card_from(marks: &[u8; 32]) -> Card
+fn card_from(marks: &[u8; 32]) -> Card
     ensures { result ≡ card_of marks.now }
 {
     Card {
-        marks: [
-            number(marks, 0),
-            number(marks, 4),
-            number(marks, 8),
-            number(marks, 12),
-            number(marks, 16),
-            number(marks, 20),
-            number(marks, 24),
-            number(marks, 28),
-        ],
+        marks: array::from_fn(|contest| number(marks, 4 * contest)),
     }
+}
+
+/// What a command shows: a place, whether its card was found, and the card's marks.
+pub(crate) fn shown(place: u16, found: u8, marks: &[u8; 32]) -> Shown
+    ensures { shown_of result ≡ shown place found (card_of marks.now) }
+{
+    let card = card_from(marks);
+    Shown { place, found, card }
 }

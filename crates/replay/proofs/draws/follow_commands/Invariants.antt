@@ -9,16 +9,18 @@ use Rattle.replay.proofs.draws.follow_commands.Given as goal
 abbrev pub invariant-commands : goal.invariant-commands
 invariant-commands g l =
     let m = account {A = g.row.A.Denot} g.P.Policy.state in
-    let terms = standing_terms l.initial.standing in
-    Followed (rules_of g.A.Assorter g.P.Policy) (terms_of terms) (standing_state l.initial.standing (map m l.initial.records))
-    l.file l.rest l.phase (map answer_of (take l.answered l.answers)) (standing_state l.standing (map m l.records))
-    × StandsAt l.phase l.standing
-    × (standing_terms l.standing ≡ terms)
-    × (drop terms.needed l.records ≡ drop terms.needed l.initial.records)
-    × (drop l.answered l.answers ≡ drop l.answered l.initial.answers)
-    × (terms.needed ≤ length l.records)
-    × (l.answered + length l.rest ≤ length l.file)
-    × (length l.answers ≡ length l.initial.answers)
+    let start = standing_terms l.initial.standing in
+    record {
+      followed : Followed (rules_of g.A.Assorter g.P.Policy) (terms_of start) (standing_state l.initial.standing (map m l.initial.records))
+          l.file l.rest l.phase (map answer_of (take l.answered l.answers)) (standing_state l.standing (map m l.records));
+      stands : StandsAt l.phase l.standing;
+      terms : standing_terms l.standing ≡ start;
+      records : drop start.needed l.records ≡ drop start.needed l.initial.records;
+      answers : drop l.answered l.answers ≡ drop l.answered l.initial.answers;
+      room : start.needed ≤ length l.records;
+      within : l.answered + length l.rest ≤ length l.file;
+      places : length l.answers ≡ length l.initial.answers;
+    }
 
 abbrev pub decreases-commands : goal.decreases-commands
 decreases-commands g l = length l.rest
