@@ -6,7 +6,7 @@ mod tests {
     use assertion::{Assertion, Share};
     use ballot::{Candidate, Card, Contest, Kind};
     use betting::{ChosenPolicy, Fixed, Record};
-    use calls::{Answer, Audit, HandCount, open};
+    use calls::{Answer, Audit, HandCount, Shown, open};
     use refusal::{Fault, File, Refusal};
     use replay::replay;
     use setup::setup::{PolicyChoice, Setup, Terms};
@@ -23,6 +23,10 @@ mod tests {
     const NOBODY: Card = Card {
         marks: [0, 0, 0, 0, 0, 0, 0, 0],
     };
+
+    fn shown(place: u16, found: u8, card: Card) -> Shown {
+        Shown { place, found, card }
+    }
 
     fn blank() -> Records {
         let share = Share {
@@ -72,17 +76,14 @@ mod tests {
     }
 
     fn opened(cards: u16, adams: u16, baker: u16, records: &mut Records) -> Result<Audit, Fail> {
-        match open(numbers(cards), &board(), &slate(adams, baker), records) {
-            Ok(audit) => Ok(audit),
-            Err(_) => Err(Fail::new("the setup should be opened")),
-        }
+        let audit = open(numbers(cards), &board(), &slate(adams, baker), records);
+        audit.map_err(|_| Fail::new("the setup should be opened"))
     }
 
     fn asked(audit: &Audit, records: &Records) -> Result<Verdict, Fail> {
-        match audit.verdict(records) {
-            Ok(verdict) => Ok(verdict),
-            Err(_) => Err(Fail::new("a verdict is due")),
-        }
+        audit
+            .verdict(records)
+            .map_err(|_| Fail::new("a verdict is due"))
     }
 
     fn enter_times(
@@ -90,11 +91,10 @@ mod tests {
         audit: &mut Audit,
         records: &mut [Record<Assertion, ChosenPolicy>],
         times: u8,
-        found: u8,
-        card: &Card,
+        shown: &Shown,
     ) {
         for _ in 0..times {
-            assert_eq!(rt; audit.enter(records, 1, found, card), Ok(()));
+            assert_eq!(rt; audit.enter(records, shown), Ok(()));
         }
     }
 
@@ -102,15 +102,15 @@ mod tests {
     fn sixteen_wins_and_one_more(rt: HostRuntime) -> Result<(), Fail> {
         let mut records = blank();
         let mut audit = opened(100, 60, 40, &mut records)?;
-        enter_times(&rt, &mut audit, &mut records, 16, 1, &ADAMS);
+        enter_times(&rt, &mut audit, &mut records, 16, &shown(1, 1, ADAMS));
         let verdict = asked(&audit, &records)?;
         assert_eq!(rt; verdict.finding, Finding::Continue);
         assert_eq!(rt; (verdict.draws, verdict.risks[0]), (16, 55));
-        assert_eq!(rt; audit.enter(&mut records, 1, 1, &ADAMS), Ok(()));
+        assert_eq!(rt; audit.enter(&mut records, &shown(1, 1, ADAMS)), Ok(()));
         let verdict = asked(&audit, &records)?;
         assert_eq!(rt; verdict.finding, Finding::Confirm);
         assert_eq!(rt; (verdict.draws, verdict.risks[0]), (17, 46));
-        let late = audit.enter(&mut records, 1, 1, &ADAMS);
+        let late = audit.enter(&mut records, &shown(1, 1, ADAMS));
         assert_eq!(rt; late, Err(Refusal::NoDrawsLeft));
         assert_eq!(rt; asked(&audit, &records)?, verdict);
         Ok(())
@@ -120,10 +120,10 @@ mod tests {
     fn draws_spent(rt: HostRuntime) -> Result<(), Fail> {
         let mut records = blank();
         let mut audit = opened(100, 60, 40, &mut records)?;
-        enter_times(&rt, &mut audit, &mut records, 20, 0, &NOBODY);
+        enter_times(&rt, &mut audit, &mut records, 20, &shown(1, 0, NOBODY));
         let verdict = asked(&audit, &records)?;
         assert_eq!(rt; verdict.finding, Finding::FullHandCount);
-        let late = audit.enter(&mut records, 1, 0, &NOBODY);
+        let late = audit.enter(&mut records, &shown(1, 0, NOBODY));
         assert_eq!(rt; late, Err(Refusal::NoDrawsLeft));
         assert_eq!(rt; asked(&audit, &records)?, verdict);
         Ok(())
@@ -133,31 +133,31 @@ mod tests {
     fn refused_entries_leave_all(rt: HostRuntime) -> Result<(), Fail> {
         let mut records = blank();
         let mut audit = opened(100, 60, 40, &mut records)?;
-        assert_eq!(rt; audit.enter(&mut records, 1, 1, &ADAMS), Ok(()));
+        assert_eq!(rt; audit.enter(&mut records, &shown(1, 1, ADAMS)), Ok(()));
         let before = asked(&audit, &records)?;
         let third = Card {
             marks: [4, 0, 0, 0, 0, 0, 0, 0],
         };
-        let short = audit.enter(&mut records[0..0], 0, 2, &third);
+        let short = audit.enter(&mut records[0..0], &shown(0, 2, third));
         assert_eq!(rt; short, Err(Refusal::NoRoom));
         assert_eq!(rt;
-            audit.enter(&mut records, 0, 2, &third),
+            audit.enter(&mut records, &shown(0, 2, third)),
             Err(Refusal::BadPlace)
         );
         assert_eq!(rt;
-            audit.enter(&mut records, 101, 1, &ADAMS),
+            audit.enter(&mut records, &shown(101, 1, ADAMS)),
             Err(Refusal::BadPlace)
         );
         assert_eq!(rt;
-            audit.enter(&mut records, 1, 2, &third),
+            audit.enter(&mut records, &shown(1, 2, third)),
             Err(Refusal::BadFound)
         );
         assert_eq!(rt;
-            audit.enter(&mut records, 1, 1, &third),
+            audit.enter(&mut records, &shown(1, 1, third)),
             Err(Refusal::BadMarks)
         );
         assert_eq!(rt;
-            audit.enter(&mut records, 1, 0, &ADAMS),
+            audit.enter(&mut records, &shown(1, 0, ADAMS)),
             Err(Refusal::BadMarks)
         );
         assert_eq!(rt; asked(&audit, &records)?, before);
@@ -172,14 +172,13 @@ mod tests {
         cards: u16,
         found: u16,
     ) {
-        for i in 0..cards {
-            let place = i.saturating_add(1);
-            let answer = if i < found {
-                hand.count(records, place, 1, &ADAMS)
+        for place in 1..=cards {
+            let next = if place <= found {
+                shown(place, 1, ADAMS)
             } else {
-                hand.count(records, place, 0, &NOBODY)
+                shown(place, 0, NOBODY)
             };
-            assert_eq!(rt; answer, Ok(()));
+            assert_eq!(rt; hand.count(records, &next), Ok(()));
         }
     }
 
@@ -187,10 +186,10 @@ mod tests {
         let mut records = blank();
         let mut hand = opened(cards, cards, 0, &mut records)?.escalate();
         count_cards(rt, &mut hand, &mut records, cards, found);
-        match hand.close(&records) {
-            Ok(closing) => Ok(closing.upheld[0]),
-            Err(_) => Err(Fail::new("the count is finished")),
-        }
+        let closing = hand
+            .close(&records)
+            .map_err(|_| Fail::new("the count is finished"))?;
+        Ok(closing.upheld[0])
     }
 
     #[test]
@@ -205,41 +204,46 @@ mod tests {
         let mut records = blank();
         let mut hand = opened(2, 2, 0, &mut records)?.escalate();
         assert_eq!(rt;
-            hand.count(&mut records, 2, 1, &ADAMS),
+            hand.count(&mut records, &shown(2, 1, ADAMS)),
             Err(Refusal::NotTheNextPlace)
         );
         assert_eq!(rt;
-            hand.count(&mut records, 3, 1, &ADAMS),
+            hand.count(&mut records, &shown(3, 1, ADAMS)),
             Err(Refusal::BadPlace)
         );
         assert_eq!(rt;
-            hand.count(&mut records[0..0], 1, 1, &ADAMS),
+            hand.count(&mut records[0..0], &shown(1, 1, ADAMS)),
             Err(Refusal::NoRoom)
         );
-        assert_eq!(rt; hand.count(&mut records, 1, 1, &ADAMS), Ok(()));
-        match hand.close(&records) {
-            Ok(_) => Err(Fail::new("one card is left")),
-            Err(refusal) => {
-                assert_eq!(rt; refusal, Refusal::CountUnfinished);
-                Ok(())
-            },
-        }
+        assert_eq!(rt; hand.count(&mut records, &shown(1, 1, ADAMS)), Ok(()));
+        assert_eq!(rt;
+            hand.close(&records),
+            Err(Refusal::CountUnfinished),
+            "one card is left"
+        );
+        Ok(())
     }
 
     #[test]
     fn not_opened(rt: HostRuntime) -> Result<(), Fail> {
         let mut records = blank();
-        match open(numbers(100), &board(), &slate(50, 50), &mut records) {
-            Ok(_) => return Err(Fail::new("a tie is no setup")),
-            Err(x) => assert_eq!(rt; (x.refusal, x.setup.cards), (Refusal::NoSetup, 100)),
-        }
-        match open(numbers(100), &board(), &slate(60, 40), &mut records[0..0]) {
-            Ok(_) => Err(Fail::new("there is no record")),
-            Err(x) => {
-                assert_eq!(rt; (x.refusal, x.setup.cards), (Refusal::NoRoom, 100));
-                Ok(())
-            },
-        }
+        let tie = open(numbers(100), &board(), &slate(50, 50), &mut records);
+        let Err(refused) = tie else {
+            return Err(Fail::new("a tie is no setup"));
+        };
+        assert_eq!(rt;
+            (refused.refusal, refused.setup.cards),
+            (Refusal::NoSetup, 100)
+        );
+        let short = open(numbers(100), &board(), &slate(60, 40), &mut records[0..0]);
+        let Err(refused) = short else {
+            return Err(Fail::new("there is no record"));
+        };
+        assert_eq!(rt;
+            (refused.refusal, refused.setup.cards),
+            (Refusal::NoRoom, 100)
+        );
+        Ok(())
     }
 
     #[test]
