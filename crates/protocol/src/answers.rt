@@ -7,14 +7,14 @@ use std::io::Write;
 /// No report of one answer is longer.
 const LONGEST: usize = 256;
 
-/// The lines of a verdict or a close; other answers have none.
+/// The lines of a verdict or a close; what is only taken has none.
 fn print_answer(rt: &HostRuntime, answer: &Answer) -> io::Result<()> {
     // A report's lines go into a buffer that the caller lends, of fixed size.
     let mut line = [0; LONGEST];
     let written = match answer {
         Answer::Finding(verdict) => report_verdict(verdict, &mut line),
         Answer::Upheld(closing) => report_closing(closing, &mut line),
-        _ => Ok(0),
+        Answer::Taken => Ok(0),
     };
     match written {
         Ok(length) => rt.stdout().write_all(line.get(..length).unwrap_or(&[])),
