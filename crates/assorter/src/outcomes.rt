@@ -11,10 +11,10 @@ use ballot::Card;
 pub fn holds<A: Assorter>(assorter: &A, cards: &[Card]) -> bool
     ensures { Decides result (A.claims assorter.now cards.now) }
 {
-    let mut sum: u128 = 0;
-    for card in cards {
-        sum += assorter.value(card) as u128;
-    }
+    let sum: u128 = cards
+        .iter()
+        .map(|card| u128::from(assorter.value(card)))
+        .sum();
     let needed = assorter.half() as u128 * cards.len() as u128;
     needed < sum
 }
@@ -28,10 +28,7 @@ pub fn all_hold(assertions: &[Planned], cards: &[Card]) -> bool
     ensures means { (ClaimsTellContest) × (ClaimsTellContests) }
     ensures totals { VotesAddUp }
 {
-    for planned in assertions {
-        if !holds(&planned.assertion, cards) {
-            return false;
-        }
-    }
-    true
+    assertions
+        .iter()
+        .all(|planned| holds(&planned.assertion, cards))
 }
