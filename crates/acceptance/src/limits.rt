@@ -26,6 +26,7 @@ fn policy_fits(policy: &PolicyChoice) -> bool
 }
 
 /// Whether the terms are in their ranges.
+// The reader of a setup tests operands, before there are terms; here are terms that a caller made.
 pub(crate) fn terms_fit(terms: &Terms) -> bool
     ensures { Decides result (TermsFit terms.now) }
 {

@@ -99,17 +99,11 @@ impl Assorter for Assertion {
     ] };
 
     fn half(&self) -> u16 {
-        match self {
-            Assertion::Pair(pair) => pair.half(),
-            Assertion::Share(share) => share.half(),
-        }
+        Assertion::half(self)
     }
 
     fn top(&self) -> u16 {
-        match self {
-            Assertion::Pair(pair) => pair.top(),
-            Assertion::Share(share) => share.top(),
-        }
+        Assertion::top(self)
     }
 
     fn value(&self, card: &Card) -> u16 {

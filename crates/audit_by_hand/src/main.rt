@@ -1,6 +1,7 @@
 //! The program audit, run in the gate on an audit that is escalated and closed by a full hand count.
 #![tactic(auto)]
 
+// A program of its own beside `audit`, since the gate runs each program once, in one folder.
 use protocol::print_audit_here;
 use std::io;
 

@@ -5,6 +5,7 @@ ghost use Rattle.ballot.specs.Contests.{assertion_count, ContestFits, contest_fr
 use crate::{Contest, Kind};
 
 impl Contest {
+    // No `TryFrom`: the operands are five numbers of a command and no value of their own.
     /// The contest that these operands describe, where each is in its range.
     pub fn from_operands(kind: u8, candidates: u8, seats: u8, p: u16, q: u16) -> Option<Contest>
         ensures answer { result ≡ contest_from kind candidates seats p q }

@@ -1,6 +1,8 @@
 //! The commands of the setup file and of the draws file, and where in a file each may stand.
 
 /// A command with its operands; a name and the marks of a card are lent by the file.
+// Kind, policy and found are bytes as the file has them: any that means nothing is refused later,
+// with a number of its own and at its turn among the tests.
 #[derive(Drop)]
 pub enum Command<'a> {
     /// A batch of the ballot manifest.

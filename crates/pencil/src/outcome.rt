@@ -38,6 +38,7 @@ impl FromStr for Outcome {
 }
 
 /// The value of the outcome to a test with this half and top.
+// A conversion that needs the test's numbers too, so no `From`.
 pub(crate) fn value_of(outcome: Outcome, half: u16, top: u16) -> u16
     ensures { result ≡ outcome_value outcome half top }
 {

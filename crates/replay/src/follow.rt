@@ -57,6 +57,7 @@ fn draw<A: Assorter + Copy, P: Policy + Copy>(
 }
 
 /// A command of the hand count.
+// Apart from `draw`: it has another state and other commands, and only there is an escalation granted.
 fn tally<A: Assorter + Copy, P: Policy + Copy>(
     hand: &mut HandCount,
     records: &mut [Record<A, P>],

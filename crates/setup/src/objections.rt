@@ -30,6 +30,7 @@ fn policy_from(policy: u8, weight: u16) -> Option<PolicyChoice>
     }
 }
 
+// No `TryFrom` here and above: the operands are numbers of a command and no value of their own.
 /// The terms that these operands give, if each is in its range.
 pub(crate) fn terms_from(risk_limit: u16, draw_limit: u16, policy: u8, weight: u16) -> Option<Terms>
     ensures { result ≡ terms_from risk_limit draw_limit policy weight }
