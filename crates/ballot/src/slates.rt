@@ -13,6 +13,7 @@ pub fn each_slate<F: Fn(&Contest, &[Candidate]) -> bool>(
     requires { F.IsAlwaysCallable test }
     ensures { EachPasses (Says F.Fn test) contests.now candidates.now result }
 {
+    // No chain of `all`: the candidates that are left would have to move along in it.
     let mut left = candidates;
     for contest in contests {
         let Some((own, rest)) = left.split_at_checked(contest.candidates as usize) else {

@@ -61,6 +61,7 @@ fn start_own(
     ensures beyond { drop setup.now.assertions records.new ≡ drop setup.now.assertions records.old }
     ensures refused { RefusedUnchanged result records.old records.new }
 {
+    // Fixed memory for the list, since nothing here allocates.
     let mut slots = [Planned::BLANK; 256];
     let mut planned = List::over(&mut slots);
     list_assertions(contests, candidates, &mut planned)?;

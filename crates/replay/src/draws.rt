@@ -74,6 +74,7 @@ fn follow_commands<A: Assorter + Copy, P: Policy + Copy>(
         standing = stands;
         match answer {
             Ok(answer) => {
+                // By a count: how many commands a file has is known only when it is read.
                 answers[answered] = answer;
                 answered += 1;
                 phase = next;

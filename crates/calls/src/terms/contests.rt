@@ -19,6 +19,7 @@ fn tell_each<R, T: Copy, F: Fn(&[R]) -> T>(sizes: &[Size], records: &[R], places
     ensures rest { drop (length sizes.now) places.new ≡ drop (length sizes.now) places.old }
 {
     let mut rest = records;
+    // By place: of places that a zip with `iter_mut` wrote, a proof knows only how many there are.
     for (i, size) in sizes.iter().enumerate() {
         let count = (size.assertions as usize).min(rest.len());
         let (part, later) = rest.split_at(count);
@@ -32,6 +33,7 @@ pub(crate) fn contest_risks<A, P: Policy>(terms: &Terms, records: &[Record<A, P>
     ensures parts { take (length terms.now.sizes.items) result ≡ map worst_risk (parts (terms_of terms.now).assertions (map (account P.state) records.now)) }
     ensures rest { OnlyFirst (length terms.now.sizes.items) 0 result }
 {
+    // An array, as a verdict has it.
     let mut risks = [0; 8];
     tell_each(
         &terms.sizes,
@@ -51,6 +53,7 @@ pub(crate) fn contests_above<A: Assorter, P: Policy>(
     ensures parts { take (length terms.now.sizes.items) result ≡ map (all_above (rules_of A.Assorter P.Policy) terms.now.cards) (parts (terms_of terms.now).assertions (map (account P.state) records.now)) }
     ensures rest { OnlyFirst (length terms.now.sizes.items) false result }
 {
+    // An array, as a closing has it.
     let mut above = [false; 8];
     let cards = terms.cards;
     tell_each(
