@@ -5,7 +5,7 @@ ghost use Rattle.ballot.specs.Contests.{assertion_count, ContestFits, contest_fr
 use crate::{Contest, Kind};
 
 impl Contest {
-    // No `TryFrom`: the operands are five numbers of a command and no value of their own.
+    // No `TryFrom`: the operands are five numbers of a command, which is no type of this crate.
     /// The contest that these operands describe, where each is in its range.
     pub fn from_operands(kind: u8, candidates: u8, seats: u8, p: u16, q: u16) -> Option<Contest>
         ensures answer { result ≡ contest_from kind candidates seats p q }
@@ -25,9 +25,7 @@ impl Contest {
         ensures answer { result ≡ contest_in_range self.now }
         ensures decides { Decides result (ContestFits self.now) }
     {
-        self.candidates >= 2
-            && self.candidates <= 32
-            && self.kind.seats_fit(self.candidates, self.seats)
+        (2..=32).contains(&self.candidates) && self.kind.seats_fit(self.candidates, self.seats)
     }
 
     /// How many assertions the contest makes: each winner against each loser, or the one share.
@@ -61,7 +59,7 @@ impl Kind {
         ensures { result ≡ seats_in_range self.now candidates seats }
     {
         match *self {
-            Kind::Plurality | Kind::Approval => seats >= 1 && seats < candidates,
+            Kind::Plurality | Kind::Approval => (1..candidates).contains(&seats),
             Kind::Supermajority { p, q } => {
                 seats == 1 && p < q && q as u32 <= 2 * p as u32 && q <= 1000
             }

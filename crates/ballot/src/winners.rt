@@ -4,6 +4,7 @@ ghost use Rattle.ballot.specs.Winners.{all_votes, enough, has_winners, reach, Vo
 
 use crate::{Candidate, Contest, Kind};
 
+// A contest's candidates are lent at each call: they lie in a list that the caller's memory holds.
 impl Contest {
     /// Whether candidate `i`, counted from 0, is a reported winner.
     pub fn wins(&self, candidates: &[Candidate], i: usize) -> bool

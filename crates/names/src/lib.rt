@@ -18,7 +18,7 @@ impl fmt::Display for Name {
         let bytes = self.0;
         let n = length(&bytes);
         for b in bytes.iter().take(n) {
-            let sign = if *b >= b' ' && *b <= b'~' {
+            let sign = if (b' '..=b'~').contains(b) {
                 char::from(*b)
             } else {
                 '?'

@@ -1,7 +1,7 @@
 //! What an audit answers.
 #![tactic(auto)]
 
-ghost use Rattle.std.specs.Prelude.{◌≡◌, length, min};
+ghost use Rattle.std.specs.Prelude.{◌≡◌, length, min, take};
 
 /// What the members are to do next.
 #[derive(Clone, Copy, PartialEq, Eq, Debug)]
@@ -34,8 +34,7 @@ impl Verdict {
         ensures contests { result.now ≡ contest_risks self.now }
         ensures count { length result.now ≡ min self.now.contests 8 }
     {
-        let contests = usize::from(self.contests).min(self.risks.len());
-        &self.risks[..contests]
+        of_contests(&self.risks, self.contests)
     }
 }
 
@@ -57,7 +56,14 @@ impl Closing {
         ensures contests { result.now ≡ contests_upheld self.now }
         ensures count { length result.now ≡ min self.now.contests 8 }
     {
-        let contests = usize::from(self.contests).min(self.upheld.len());
-        &self.upheld[..contests]
+        of_contests(&self.upheld, self.contests)
     }
+}
+
+/// The first places, one for each contest; there are no more than eight.
+fn of_contests<T>(places: &[T; 8], contests: u8) -> &[T]
+    ensures first { result.now ≡ take contests places.now }
+    ensures count { length result.now ≡ min contests 8 }
+{
+    &places[..usize::from(contests).min(places.len())]
 }
