@@ -6,6 +6,27 @@ ghost use Rattle.format.specs.Written.{ReadsAsWritten};
 use crate::command::{Command, Phase};
 use refusal::Refusal;
 
+// The first byte of each command.
+const BATCH: u8 = 0x01;
+
+const TERMS: u8 = 0x02;
+
+const CONTEST: u8 = 0x03;
+
+const CANDIDATE: u8 = 0x04;
+
+const OPEN: u8 = 0x05;
+
+const ENTRY: u8 = 0x11;
+
+const VERDICT: u8 = 0x12;
+
+const ESCALATE: u8 = 0x13;
+
+const COUNT: u8 = 0x14;
+
+const CLOSE: u8 = 0x15;
+
 /// A name and a number, and the bytes after them.
 fn named(operands: &[u8]) -> Option<(&[u8; 8], u16, &[u8])>
     ensures { MatchOption result (length operands.now < 10) (λ x. Named operands.now x.0.now x.1 x.2.now) }
@@ -32,11 +53,11 @@ fn command(bytes: &[u8]) -> Option<(Command<'_>, &[u8])>
     ensures { taken result ≡ says (slice_index bytes.now 0) bytes.now }
 {
     match bytes {
-        [0x01, operands @ ..] => {
+        [BATCH, operands @ ..] => {
             let (name, cards, rest) = named(operands)?;
             Some((Command::Batch { name, cards }, rest))
         }
-        [0x02, r1, r0, d1, d0, policy, w1, w0, rest @ ..] => {
+        [TERMS, r1, r0, d1, d0, policy, w1, w0, rest @ ..] => {
             let terms = Command::Terms {
                 risk_limit: u16::from_be_bytes([*r1, *r0]),
                 draw_limit: u16::from_be_bytes([*d1, *d0]),
@@ -45,7 +66,7 @@ fn command(bytes: &[u8]) -> Option<(Command<'_>, &[u8])>
             };
             Some((terms, rest))
         }
-        [0x03, kind, candidates, seats, p1, p0, q1, q0, rest @ ..] => {
+        [CONTEST, kind, candidates, seats, p1, p0, q1, q0, rest @ ..] => {
             let contest = Command::Contest {
                 kind: *kind,
                 candidates: *candidates,
@@ -55,12 +76,12 @@ fn command(bytes: &[u8]) -> Option<(Command<'_>, &[u8])>
             };
             Some((contest, rest))
         }
-        [0x04, operands @ ..] => {
+        [CANDIDATE, operands @ ..] => {
             let (name, votes, rest) = named(operands)?;
             Some((Command::Candidate { name, votes }, rest))
         }
-        [0x05, rest @ ..] => Some((Command::Open, rest)),
-        [0x11, operands @ ..] => {
+        [OPEN, rest @ ..] => Some((Command::Open, rest)),
+        [ENTRY, operands @ ..] => {
             let (place, found, marks, rest) = marked(operands)?;
             let entry = Command::Entry {
                 place,
@@ -69,9 +90,9 @@ fn command(bytes: &[u8]) -> Option<(Command<'_>, &[u8])>
             };
             Some((entry, rest))
         }
-        [0x12, rest @ ..] => Some((Command::Verdict, rest)),
-        [0x13, rest @ ..] => Some((Command::Escalate, rest)),
-        [0x14, operands @ ..] => {
+        [VERDICT, rest @ ..] => Some((Command::Verdict, rest)),
+        [ESCALATE, rest @ ..] => Some((Command::Escalate, rest)),
+        [COUNT, operands @ ..] => {
             let (place, found, marks, rest) = marked(operands)?;
             let count = Command::Count {
                 place,
@@ -80,7 +101,7 @@ fn command(bytes: &[u8]) -> Option<(Command<'_>, &[u8])>
             };
             Some((count, rest))
         }
-        [0x15, rest @ ..] => Some((Command::Close, rest)),
+        [CLOSE, rest @ ..] => Some((Command::Close, rest)),
         _ => None,
     }
 }
@@ -90,13 +111,13 @@ fn allows(phase: Phase, byte: u8) -> bool
     ensures { result ≡ allowed phase byte }
 {
     match phase {
-        Phase::Start => byte == 0x01,
-        Phase::Batches => matches!(byte, 0x01 | 0x02),
-        Phase::Terms => byte == 0x03,
-        Phase::Candidates => byte == 0x04,
-        Phase::Contests => matches!(byte, 0x03 | 0x05),
-        Phase::Drawing => matches!(byte, 0x11 | 0x12 | 0x13),
-        Phase::Counting => matches!(byte, 0x14 | 0x15),
+        Phase::Start => byte == BATCH,
+        Phase::Batches => matches!(byte, BATCH | TERMS),
+        Phase::Terms => byte == CONTEST,
+        Phase::Candidates => byte == CANDIDATE,
+        Phase::Contests => matches!(byte, CONTEST | OPEN),
+        Phase::Drawing => matches!(byte, ENTRY | VERDICT | ESCALATE),
+        Phase::Counting => matches!(byte, COUNT | CLOSE),
         Phase::Opened | Phase::Closed => false,
     }
 }
