@@ -6,7 +6,7 @@ mod limits;
 ghost use Rattle.std.specs.Prelude.{Decides};
 ghost use Rattle.acceptance.specs.Held.{HoldsSetup};
 
-use crate::limits::{batches_fit, contests_stand, counts_agree, terms_fit};
+use crate::limits::{batches_fit, contests_stand, counts_agree};
 use ballot::{Candidate, Contest};
 use setup::setup::Setup;
 
@@ -16,7 +16,7 @@ pub fn holds_setup(setup: &Setup, contests: &[Contest], candidates: &[Candidate]
     ensures { Decides result (HoldsSetup setup.now contests.now candidates.now) }
 {
     batches_fit(setup.batches, setup.cards)
-        && terms_fit(&setup.terms)
+        && setup.terms.fit()
         && counts_agree(setup, contests, candidates)
         && contests_stand(setup.cards, contests, candidates)
 }

@@ -1,38 +1,18 @@
 //! The limits of a setup, part by part.
 ghost use Rattle.std.specs.Prelude.{◌≤◌, Decides};
 ghost use Rattle.std.specs.List.{AllByRecursion};
-ghost use Rattle.setup.specs.Described.{ContestStands, ContestsStand, PolicyFits, TermsFit};
+ghost use Rattle.setup.specs.Described.{ContestStands, ContestsStand};
 ghost use Rattle.acceptance.specs.Held.{CanShare, CountsAgree};
 
 use ballot::limits::{ASSERTIONS, BATCHES, CONTESTS};
 use ballot::{Candidate, Contest, assertions_of, each_slate};
-use setup::setup::{PolicyChoice, Setup, Terms};
+use setup::setup::Setup;
 
 /// Whether there may be so many batches, with a card at least in each.
 pub(crate) fn batches_fit(batches: usize, cards: u16) -> bool
     ensures { Decides result (CanShare batches cards) }
 {
     (1..=BATCHES).contains(&batches) && batches <= cards as usize
-}
-
-/// Whether a shrinking bet has a weight in its range.
-fn policy_fits(policy: &PolicyChoice) -> bool
-    ensures { Decides result (PolicyFits policy.now) }
-{
-    match *policy {
-        PolicyChoice::Fixed => true,
-        PolicyChoice::Shrinking { weight } => (1..=1000).contains(&weight),
-    }
-}
-
-/// Whether the terms are in their ranges.
-// The reader of a setup tests operands, before there are terms; here are terms that a caller made.
-pub(crate) fn terms_fit(terms: &Terms) -> bool
-    ensures { Decides result (TermsFit terms.now) }
-{
-    (10..=500).contains(&terms.risk_limit)
-        && (1..=20_000).contains(&terms.draw_limit)
-        && policy_fits(&terms.policy)
 }
 
 /// Whether the setup's numbers count these contests, candidates and assertions, and there may be so

@@ -1,6 +1,6 @@
 //! What the rules object to in a command that could be read.
 ghost use Rattle.std.specs.Prelude.{◌≡◌, ◌<◌, [], ◌∷◌, ◌++◌, length};
-ghost use Rattle.setup.specs.Reading.{batch_objection, candidate_objection, contest_objection, is_last, policy_from, slate, slate_objection, terms_from, unless};
+ghost use Rattle.setup.specs.Reading.{batch_objection, candidate_objection, contest_objection, is_last, slate, slate_objection, terms_from, unless};
 
 use crate::progress::Progress;
 use crate::setup::{PolicyChoice, Terms};
@@ -19,31 +19,22 @@ pub(crate) fn to_batch(batches: usize, cards: u16, batch: &Batch) -> Result<(), 
     Ok(())
 }
 
-/// The policy with this number and weight.
-fn policy_from(policy: u8, weight: u16) -> Option<PolicyChoice>
-    ensures { result ≡ policy_from policy weight }
-{
-    match (policy, weight) {
-        (1, 0) => Some(PolicyChoice::Fixed),
-        (2, 1..=1000) => Some(PolicyChoice::Shrinking { weight }),
-        _ => None,
-    }
-}
-
 // No `TryFrom` here and above: the operands are numbers of a command and no value of their own.
-/// The terms that these operands give, if each is in its range.
+/// The terms that these operands give, if each is in its range; only a shrinking bet has a weight.
 pub(crate) fn terms_from(risk_limit: u16, draw_limit: u16, policy: u8, weight: u16) -> Option<Terms>
     ensures { result ≡ terms_from risk_limit draw_limit policy weight }
 {
-    let policy = policy_from(policy, weight)?;
-    if (10..=500).contains(&risk_limit) && (1..=20_000).contains(&draw_limit) {
-        return Some(Terms {
-            risk_limit,
-            draw_limit,
-            policy,
-        });
-    }
-    None
+    let policy = match (policy, weight) {
+        (1, 0) => PolicyChoice::Fixed,
+        (2, _) => PolicyChoice::Shrinking { weight },
+        _ => return None,
+    };
+    let terms = Terms {
+        risk_limit,
+        draw_limit,
+        policy,
+    };
+    if terms.fit() { Some(terms) } else { None }
 }
 
 /// Tests one contest more, after so many contests and assertions.
