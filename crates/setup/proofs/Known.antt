@@ -1,5 +1,5 @@
 -- What is known of the commands that were followed: they are the commands of a setup, as far as it was read.
-use Rattle.std.proofs.Common.{◌≡◌, ℕ, ◌+◌, ◌-◌, ◌*◌, ◌<◌, ◌≤◌, Bool, true, false, cond, ◌&&◌, ◌||◌, eqb, ltb, leb, List, [], ◌∷◌, ◌++◌, map, length, take, drop, Some, None, Ok, Err, Option, Result, sym, refl, ap, ◌∙◌, subst, arith, length-append, ltb-false, leb-false, leb-true}
+use Rattle.std.proofs.Common.{◌≡◌, ℕ, ◌+◌, ◌-◌, ◌*◌, ◌<◌, ◌≤◌, Bool, true, false, cond, ltb, leb, List, [], ◌∷◌, ◌++◌, map, length, take, drop, Some, None, Ok, Err, Option, Result, sym, refl, ap, ◌∙◌, subst, arith, length-append, ltb-false, leb-false, leb-true}
 use Rattle.std.proofs.lemmas.List.{append_assoc, append-nil, length_push, map_push, take_all, drop_all, take-append-le, drop-append-le, length-take, drop_at}
 use Rattle.std.proofs.ByRecursion.{All-push}
 use Rattle.std.proofs.lemmas.List.Sums.{sum_by_push}
@@ -23,7 +23,7 @@ use Rattle.setup.specs.declared.setup.PolicyChoice.{PolicyChoice}
 use Rattle.setup.specs.declared.setup.PolicyChoice.TheVariants.{Fixed, Shrinking}
 use Rattle.setup.specs.declared.setup.Terms.{Terms}
 use Rattle.setup.specs.Described.{Described, BatchesFit, PolicyFits, TermsFit, ContestStands, ContestsStand, WithinLimits, cards_in, assertions_in, policy_number, weight_of, batch_command, terms_command, contest_command, candidate_command, contest_commands, commands, numbers}
-use Rattle.setup.specs.Reading.{HeldLists, Stepped, setup_of, batch_objection, candidate_objection, contest_objection, slate_objection, slate, after_batch, after_terms, after_contest, after_candidate, policy_from, terms_from, terms_with, opened, nothing_read, step, step_contest, within}
+use Rattle.setup.specs.Reading.{HeldLists, Stepped, setup_of, batch_objection, candidate_objection, contest_objection, slate_objection, slate, after_batch, after_terms, after_contest, after_candidate, policy_from, terms_from, opened, nothing_read, step, step_contest}
 use Rattle.setup.specs.Accepted.{HasPlaces, lists_with}
 use Rattle.setup.proofs.Added.{admitted}
 use Rattle.setup.proofs.Forward.{votes_are_within}
@@ -94,70 +94,32 @@ cond_none true e o h = absurd (cc)
 cond_none false e o h = (refl, h)
 
 batch_facts : (k n : ℕ) (b : Batch) → batch_objection k n b ≡ None → (1 ≤ b.cards) × (k < 200) × (n + b.cards ≤ 65535)
-batch_facts k n b h =
-    let t = (cond_none (eqb b.cards 0 || leb 200 k || ltb 65535 (n + b.cards)) no.BadBatch None h).0 in
-    (grind (arith, nat_tests), grind (arith, nat_tests), grind (arith, nat_tests))
+batch_facts k n b h = grind (arith, nat_tests)
 
 contest_facts : (k a : ℕ) (x : Contest) → contest_objection k a x ≡ None → (k < 8) × (a + assertion_count x ≤ 256)
-contest_facts k a x h =
-    let t = cond_none (leb 8 k) no.BadContest _ h in
-    let u = cond_none (ltb 256 (a + assertion_count x)) no.TooManyAssertions None t.1 in
-    (leb-false 8 k t.0, ltb-false 256 (a + assertion_count x) u.0)
+contest_facts k a x h = grind (arith, nat_tests)
 
-abbrev PolicySays : PolicyChoice → ℕ → ℕ → Type 0
-PolicySays p policy weight = PolicyFits p × (policy_number p ≡ policy) × (weight_of p ≡ weight)
-
-policy_by : (policy weight : ℕ) (p : PolicyChoice) (a b : Bool) → (eqb policy 1 && eqb weight 0) ≡ a → (eqb policy 2 && within 1 1000 weight) ≡ b →
-    cond a (Some Fixed) (cond b (Some (Shrinking weight)) None) ≡ Some p → PolicySays p policy weight
-policy_by policy weight Fixed true b e f h = (tt, grind (arith, nat_tests), grind (arith, nat_tests))
-policy_by policy weight (Shrinking w) true b e f h = absurd (cc)
-policy_by policy weight Fixed false true e f h = absurd (cc)
-policy_by policy weight (Shrinking w) false true e f h =
-    let same : w ≡ weight = cc in
-    ((grind (arith, nat_tests), grind (arith, nat_tests)), grind (arith, nat_tests), same)
-policy_by policy weight p false false e f h = absurd (cc)
+policy_said : (policy weight : ℕ) (p : PolicyChoice) → policy_from policy weight ≡ Some p →
+    PolicyFits p × (policy_number p ≡ policy) × (weight_of p ≡ weight)
+policy_said policy weight Fixed h = grind (arith, nat_tests)
+policy_said policy weight (Shrinking w) h = grind (arith, nat_tests)
 
 record TermsSaid (r d policy weight : ℕ) (t : Terms) : Type 0 where
   fits : TermsFit t
   command : terms_command t ≡ terms r d policy weight
 
-terms_by : (r d policy weight : ℕ) (t : Terms) (p : PolicyChoice) (b : Bool) → PolicySays p policy weight →
-    (within 10 500 r && within 1 20000 d) ≡ b →
-    cond b (Some (record { risk_limit = r; draw_limit = d; policy = p })) None ≡ Some t → TermsSaid r d policy weight t
-terms_by r d policy weight t p true k e h =
-    let same : ◌≡◌ {A = Terms} (record { risk_limit = r; draw_limit = d; policy = p }) t = cc in
-    subst (TermsSaid r d policy weight) same
-    (record {
-      fits = record {
-        risk_limit = (grind (arith, nat_tests), grind (arith, nat_tests));
-        draw_limit = (grind (arith, nat_tests), grind (arith, nat_tests));
-        policy_fits = k.0;
-      };
-      command = let x = k.1 in let y = k.2 in cc;
-    })
-terms_by r d policy weight t p false k e h = absurd (cc)
-
-terms_facts : (r d policy weight : ℕ) (t : Terms) (o : Option PolicyChoice) → policy_from policy weight ≡ o →
-    terms_with r d o ≡ Some t → TermsSaid r d policy weight t
-terms_facts r d policy weight t (Some p) e h =
-    terms_by r d policy weight t p (within 10 500 r && within 1 20000 d) (policy_by policy weight p _ _ refl refl e) refl h
-terms_facts r d policy weight t None e h = absurd (cc)
+terms_facts : (r d policy weight : ℕ) (t : Terms) → terms_from r d policy weight ≡ Some t → TermsSaid r d policy weight t
+terms_facts r d policy weight t h =
+    let s = policy_said policy weight t.policy in grind (arith, nat_tests)
 
 votes_were_within : (k : Kind) (seats n votes : ℕ) → votes_within k seats n votes ≡ true → VotesFit k seats n votes
 votes_were_within Plurality seats n votes h = leb-true votes (seats * n) h
 votes_were_within Approval seats n votes h = tt
 votes_were_within (Supermajority p q) seats n votes h = leb-true votes (seats * n) h
 
-slate_by : (n : ℕ) (x : Contest) (cs : List Candidate) (a b : Bool) → votes_fit x n cs ≡ a → has_winners x cs ≡ b →
-    cond {A = Option Refusal} a (cond b None (Some no.NoWinners)) (Some no.TooManyVotes) ≡ None →
-    VotesFit x.kind x.seats n (all_votes cs) × (has_winners x cs ≡ true)
-slate_by n x cs true true e f h = (votes_were_within x.kind x.seats n (all_votes cs) e, f)
-slate_by n x cs true false e f h = absurd (cc)
-slate_by n x cs false b e f h = absurd (cc)
-
 slate_facts : (n : ℕ) (x : Contest) (cs : List Candidate) → slate_objection n x cs ≡ None →
     VotesFit x.kind x.seats n (all_votes cs) × (has_winners x cs ≡ true)
-slate_facts n x cs h = slate_by n x cs (votes_fit x n cs) (has_winners x cs) refl refl h
+slate_facts n x cs h = grind (arith, nat_tests, votes_were_within x.kind x.seats n (all_votes cs))
 
 -- ---- one contest more
 
@@ -243,7 +205,7 @@ module _ (ls : HeldLists) (q : Progress) (mid : HeldLists) where
       Known ls q mid (map batch_command bs ++ (terms r d policy weight ∷ []))
   known_terms bs r d policy weight (Some t) o fit place e =
       let n = cards_in bs in
-      let f = terms_facts r d policy weight t (policy_from policy weight) refl o in
+      let f = terms_facts r d policy weight t o in
       let s = step_on_terms ls at.Batches n nothing_read.terms 0 nothing_read.contest 0 bs [] [] t f.fits in
       let s' = ap (step (made at.Batches n nothing_read.terms 0 nothing_read.contest 0) (lists_with ls bs [] [])) (sym f.command) ∙ s in
       known_at ls (at_terms bs t (record { batches_fit = fit; batches_placed = place; terms_fit = f.fits })) (same_progress s' e) (same_lists s' e)

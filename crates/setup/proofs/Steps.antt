@@ -1,5 +1,5 @@
 -- What each command does to lists whose memory its items fill, where no rule objects.
-use Rattle.std.proofs.Common.{◌≡◌, ℕ, ◌+◌, ◌<◌, ◌≤◌, true, false, ◌&&◌, ◌||◌, eqb, ltb, leb, List, [], ◌∷◌, ◌++◌, length, Some, None, Ok, Option, Result, refl, ap, ◌∙◌, arith, le-ltb, lt-ltb, le-leb}
+use Rattle.std.proofs.Common.{◌≡◌, ℕ, ◌+◌, ◌<◌, ◌≤◌, true, false, ◌||◌, eqb, ltb, leb, List, [], ◌∷◌, ◌++◌, length, Some, None, Ok, Option, Result, refl, ap, ◌∙◌, arith, le-ltb, lt-ltb, le-leb}
 use borrow.Author.Tests.{lt-leb}
 use Rattle.std.proofs.lemmas.Bool.Decides.{nat_tests}
 use Rattle.refusal.specs.declared.Refusal.{Refusal}
@@ -39,18 +39,11 @@ same_step r r' l l' e f = cc
 -- Operands that were written of terms and of a contest give them back.
 policy_back : (p : PolicyChoice) → PolicyFits p → policy_from (policy_number p) (weight_of p) ≡ Some p
 policy_back Fixed h = refl
-policy_back (Shrinking w) h =
-    let e : (leb 1 w && leb w 1000) ≡ true = grind (arith, nat_tests) in simp e
+policy_back (Shrinking w) h = grind (arith, nat_tests)
 
 terms_back : (t : Terms) → TermsFit t →
     terms_from t.risk_limit t.draw_limit (policy_number t.policy) (weight_of t.policy) ≡ Some t
-terms_back t h =
-    let p = policy_back t.policy h.policy_fits in
-    let l = h.risk_limit in
-    let d = h.draw_limit in
-    let e : (leb 10 t.risk_limit && leb t.risk_limit 500 && (leb 1 t.draw_limit && leb t.draw_limit 20000)) ≡ true =
-    grind (arith, nat_tests) in
-    simp (p, e)
+terms_back t h = let p = policy_back t.policy h.policy_fits in grind (arith, nat_tests)
 
 contest_back : (x : Contest) → ContestFits x →
     contest_from (kind_number x.kind) x.candidates x.seats (share_p x.kind) (share_q x.kind) ≡ Some x
