@@ -50,6 +50,7 @@ pub enum Refusal {
 }
 
 /// The number that members see.
+// A table and no discriminants, so that each number stands beside its case as the rules have it.
 impl From<Refusal> for u8 {
     ghost from_gives = { λ refusal n. n ≡ number refusal };
 
