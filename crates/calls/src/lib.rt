@@ -8,10 +8,12 @@ mod drawing;
 mod lending;
 mod opened;
 mod opens;
+mod stage;
 mod states;
 mod terms;
 
 pub use answers::{Answer, CountCall, DrawCall, Shown, Standing};
 pub use opened::NotOpened;
 pub use opens::{open, open_with};
+pub use stage::Stage;
 pub use states::{Audit, HandCount};

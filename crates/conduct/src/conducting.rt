@@ -5,16 +5,15 @@ ghost use Rattle.course.specs.Course.{rules_of};
 ghost use Rattle.course.specs.Course.Call.{escalation};
 ghost use Rattle.course.specs.Laws.{left_by};
 ghost use Rattle.course.specs.Promise.{Promised};
-ghost use Rattle.calls.specs.Answers.{answer_or, count_call, draw_call};
+ghost use Rattle.calls.specs.Answers.{answer_or, count_call};
 ghost use Rattle.calls.specs.Calls.{audit_state, count_state};
 ghost use Rattle.conduct.specs.Conducts.{all_calls, answers_by, conduct_refusal, Conducted, Conducts, KeptUnless, not_conducted, StandsBy, StandsIfConducted};
 ghost use Rattle.calls.specs.Shapes.{terms_of};
 
 use crate::outcome::NotConducted;
-use crate::stage::Stage;
 use assorter::Assorter;
 use betting::{Policy, Record};
-use calls::{Answer, Audit, CountCall, DrawCall, HandCount, Standing};
+use calls::{Answer, Audit, CountCall, DrawCall, HandCount, Stage, Standing};
 use refusal::Refusal;
 
 /// The calls of one stage, with one place for each answer.

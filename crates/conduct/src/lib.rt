@@ -3,7 +3,6 @@
 
 mod conducting;
 mod outcome;
-mod stage;
 
 pub use conducting::conduct;
 pub use outcome::NotConducted;

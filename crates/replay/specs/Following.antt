@@ -10,7 +10,8 @@ use Rattle.course.specs.Course.{Rules, State, Call, step}
 use Rattle.calls.specs.declared.answers.Answer.{Answer}
 use Rattle.calls.specs.declared.answers.Standing.{Standing}
 use Rattle.calls.specs.declared.answers.Standing.TheVariants.{Drawing, Counting}
-use Rattle.calls.specs.Answers.{answer_of}
+use Rattle.calls.specs.declared.answers.DrawCall.{DrawCall}
+use Rattle.calls.specs.Answers.{answer_of, draw_call}
 use Rattle.replay.specs.declared.draws.Replayed.{Replayed}
 use Rattle.replay.specs.Replays.{Accepts, StandsAt}
 
@@ -23,6 +24,11 @@ AcceptsOr (Err e) = Unit {0}
 abbrev pub Asked : {A S : Type 0} → Rules A S → Terms → State A S → Option Call → State A S × course.Answer → Type 0
 Asked R t σ (Some c) x = x ≡ step R t σ c
 Asked R t σ None x = ⊥
+
+-- A call of the drawing; none stands for the escalation.
+abbrev pub draw_or_escalation : Option DrawCall → Call
+draw_or_escalation (Some c) = draw_call c
+draw_or_escalation None = Call.escalation
 
 abbrev pub standing_phase : Standing → Phase
 standing_phase (Drawing audit) = at.Drawing

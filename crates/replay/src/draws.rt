@@ -64,7 +64,7 @@ fn follow_commands<A: Assorter + Copy, P: Policy + Copy>(
     let mut phase = Phase::Drawing;
     let mut rest = file;
     let mut answered = 0;
-    'commands: while rest.len() > 0 {
+    'commands: while !rest.is_empty() {
         let (command, after) = match next_command(rest, phase) {
             Ok(taken) => taken,
             Err(refusal) => return stopped(standing, answered, file, rest, refusal),

@@ -1,19 +1,19 @@
 //! One command of a draws file.
-ghost use Rattle.std.specs.Prelude.{◌≡◌, ◌≤◌, true, map, length, drop};
+ghost use Rattle.std.specs.Prelude.{◌≡◌, ◌≤◌, true, map, length, drop, Some};
 ghost use Rattle.betting.specs.Accounts.{account};
-ghost use Rattle.calls.specs.Answers.{answer_or, standing_state, standing_terms};
-ghost use Rattle.calls.specs.Calls.{audit_state, count_state, KeptOnRefusal};
+ghost use Rattle.calls.specs.Answers.{answer_or, count_call, standing_state, standing_terms};
+ghost use Rattle.calls.specs.Calls.{KeptOnRefusal};
 ghost use Rattle.calls.specs.Shapes.{terms_of};
 ghost use Rattle.course.specs.Course.{rules_of};
 ghost use Rattle.format.specs.declared.command.Phase.TheVariants.{Counting, Drawing};
 ghost use Rattle.format.specs.Format.{allowed, code, meant};
-ghost use Rattle.replay.specs.Following.{Asked, standing_phase, StandsAfter};
+ghost use Rattle.replay.specs.Following.{Asked, draw_or_escalation, standing_phase, StandsAfter};
 ghost use Rattle.replay.specs.Replays.{call_of, phase_after};
 
 use crate::marks::shown;
 use assorter::Assorter;
 use betting::{Policy, Record};
-use calls::{Answer, Audit, HandCount, Standing};
+use calls::{Answer, CountCall, DrawCall, Stage, Standing};
 use format::command::{Command, Phase};
 use refusal::Refusal;
 
@@ -28,58 +28,38 @@ pub(crate) fn phase_after(phase: Phase, command: &Command<'_>) -> Phase
     }
 }
 
-/// A command of the drawing; an escalation is granted, and the audit stays as it is.
-fn draw<A: Assorter + Copy, P: Policy + Copy>(
-    audit: &mut Audit,
-    records: &mut [Record<A, P>],
-    command: Command<'_>,
-) -> Result<Answer, Refusal>
+/// What a command of the drawing asks; an escalation, which is no call of the drawing, gives none.
+fn draw_call(command: Command<'_>) -> Option<DrawCall>
     requires order { allowed Drawing (code (meant command)) ≡ true }
-    requires room { audit.old.terms.needed ≤ length records.old }
-    ensures course { Asked (rules_of A.Assorter P.Policy) (terms_of audit.old.terms) (audit_state audit.old (map (account P.state) records.old)) (call_of (meant command.entry)) (audit_state audit.new (map (account P.state) records.new), answer_or result) }
-    ensures terms { audit.new.terms ≡ audit.old.terms }
-    ensures beyond { drop audit.old.terms.needed records.new ≡ drop audit.old.terms.needed records.old }
-    ensures kept { (KeptOnRefusal result audit.old audit.new) × (KeptOnRefusal result records.old records.new) }
+    ensures { call_of (meant command.entry) ≡ Some (draw_or_escalation result) }
 {
     match command {
         Command::Entry {
             place,
             found,
             marks,
-        } => {
-            audit
-                .enter(records, &shown(place, found, marks))
-                .map(|()| Answer::Taken)
-        }
-        Command::Verdict => audit.verdict(records).map(Answer::Finding),
-        _ => Ok(Answer::Taken),
+        } => Some(DrawCall::Entry(shown(place, found, marks))),
+        Command::Verdict => Some(DrawCall::Verdict),
+        Command::Escalate => None,
+        // No other command may stand in the drawing.
+        _ => unreachable!(),
     }
 }
 
-/// A command of the hand count.
-// Apart from `draw`: it has another state and other commands, and only there is an escalation granted.
-fn tally<A: Assorter + Copy, P: Policy + Copy>(
-    hand: &mut HandCount,
-    records: &mut [Record<A, P>],
-    command: Command<'_>,
-) -> Result<Answer, Refusal>
+/// What a command of the hand count asks.
+fn count_call(command: Command<'_>) -> CountCall
     requires order { allowed Counting (code (meant command)) ≡ true }
-    requires room { hand.old.terms.needed ≤ length records.old }
-    ensures course { Asked (rules_of A.Assorter P.Policy) (terms_of hand.old.terms) (count_state hand.old (map (account P.state) records.old)) (call_of (meant command.entry)) (count_state hand.new (map (account P.state) records.new), answer_or result) }
-    ensures terms { hand.new.terms ≡ hand.old.terms }
-    ensures beyond { drop hand.old.terms.needed records.new ≡ drop hand.old.terms.needed records.old }
-    ensures kept { (KeptOnRefusal result hand.old hand.new) × (KeptOnRefusal result records.old records.new) }
+    ensures { call_of (meant command.entry) ≡ Some (count_call result) }
 {
     match command {
         Command::Count {
             place,
             found,
             marks,
-        } => {
-            hand.count(records, &shown(place, found, marks))
-                .map(|()| Answer::Taken)
-        }
-        _ => hand.close(records).map(Answer::Upheld),
+        } => CountCall::Count(shown(place, found, marks)),
+        Command::Close => CountCall::Close,
+        // No other command may stand in the hand count.
+        _ => unreachable!(),
     }
 }
 
@@ -98,15 +78,15 @@ pub(crate) fn follow<A: Assorter + Copy, P: Policy + Copy>(
     ensures kept { (KeptOnRefusal result.1 standing result.0) × (KeptOnRefusal result.1 records.old records.new) }
 {
     match standing {
-        Standing::Drawing(mut audit) => match command {
-            Command::Escalate => (Standing::Counting(audit.escalate()), Ok(Answer::Taken)),
-            _ => {
-                let answer = draw(&mut audit, records, command);
+        Standing::Drawing(mut audit) => match draw_call(command) {
+            None => (Standing::Counting(audit.escalate()), Ok(Answer::Taken)),
+            Some(call) => {
+                let answer = audit.answer(records, call);
                 (Standing::Drawing(audit), answer)
             }
         },
         Standing::Counting(mut hand) => {
-            let answer = tally(&mut hand, records, command);
+            let answer = hand.answer(records, count_call(command));
             (Standing::Counting(hand), answer)
         }
     }

@@ -1,5 +1,6 @@
-use Rattle.std.proofs.Common.{◌≡◌, ◌+◌, ◌-◌, ◌<◌, List, [], ◌∷◌, ◌++◌, map, length, take, drop, set, Some, Ok, Result, sym, ap, ◌∙◌, subst, arith, rules}
+use Rattle.std.proofs.Common.{◌≡◌, ◌+◌, ◌-◌, ◌<◌, ◌≤◌, List, [], ◌∷◌, ◌++◌, map, length, take, drop, set, Some, Ok, Result, sym, ap, ◌∙◌, subst, arith, rules}
 use Rattle.std.proofs.lemmas.List.{drop-drop, drop-set-lt, length-set, map_push, take_more_set}
+use Rattle.std.proofs.lemmas.Grind.{common_steps}
 use Rattle.refusal.specs.declared.File.TheVariants.{Draws}
 use Rattle.refusal.specs.declared.Refusal.{Refusal}
 use Rattle.betting.specs.Accounts.{account}
@@ -48,7 +49,8 @@ commands-preserved g c =
     let asked : Asked R (terms_of t) σ (call_of m) (τ, answer_of a) =
     subst (λ (r : Result Answer Refusal). Asked R (terms_of t) σ (call_of m) (τ, answer_or r)) c.in-Ok-answer.is
     (subst (λ (x : Terms). Asked R (terms_of x) σ (call_of m) (τ, answer_or c.follow-stands.result.1)) i.terms c.follow-stands.ensures.course) in
-    let place : k < length xs = omega (arith, i.within, i.places, c.requires.places) in
+    let some : 1 ≤ length rest = grind (arith, common_steps) in
+    let place : k < length xs = omega (arith, some, i.within, i.places, c.requires.places) in
     let same_terms : standing_terms u ≡ t = search rules in
     let more = followed_more R (terms_of t) start σ τ c.args.file.now rest after ph
     (map answer_of (take k xs)) m (answer_of a) i.followed reads (accepted (Ok a)) asked in
@@ -96,8 +98,9 @@ returns-in-Err-answer-clause-replays g c =
     let asked : Asked R t σ (call_of m) (τ, refused e) =
     subst (λ (r : Result Answer Refusal). Asked R t σ (call_of m) (τ, answer_or r)) c.in-Err-answer.is
     (subst (λ (x : Terms). Asked R (terms_of x) σ (call_of m) (τ, answer_or c.follow-stands.result.1)) i.terms c.follow-stands.ensures.course) in
+    let some : 1 ≤ length rest = grind (arith, common_steps) in
     let stops = stops_refused R t σ τ file rest c.in-Ok.taken.1.now c.commands.phase m e (sym c.in-Ok.ensures.value) asked
-    (omega arith) (omega (arith, i.within)) in
+    some (omega (arith, i.within)) in
     let there : Replays R t (audit_state c.args.audit (map f c.args.records.now)) file (map answer_of (take c.commands.answered c.commands.answers))
     (Some (record { refusal = e; file = Draws; offset = length file - length rest })) s σ =
     record { rest = rest; at = c.commands.phase; followed = i.followed; stands = i.stands; stops = stops } in

@@ -5,16 +5,17 @@ ghost use Rattle.course.specs.Course as course;
 ghost use Rattle.course.specs.Course.{rules_of, State};
 ghost use Rattle.calls.specs.declared.terms.Terms.{Terms};
 ghost use Rattle.calls.specs.Answers.{answer_or, count_call, draw_call};
-ghost use Rattle.calls.specs.Calls.{audit_state, called, count_state};
+ghost use Rattle.calls.specs.Calls.{audit_state, called, count_state, KeptOnRefusal};
 ghost use Rattle.calls.specs.Shapes.{terms_of};
 
+use crate::answers::{Answer, CountCall, DrawCall};
+use crate::states::{Audit, HandCount};
 use assorter::Assorter;
 use betting::{Policy, Record};
-use calls::{Answer, Audit, CountCall, DrawCall, HandCount};
 use refusal::Refusal;
 
 /// An audit at a stage, with the calls that it answers there.
-pub(crate) trait Stage {
+pub trait Stage {
     type Call: Copy;
 
     ghost terms: { Self → Terms };
@@ -24,7 +25,7 @@ pub(crate) trait Stage {
 
     ghost asked: { Self.Call → course.Call };
 
-    /// What one call answers.
+    /// What one call answers; a refusal changes nothing.
     fn answer<A: Assorter + Copy, P: Policy + Copy>(
         &mut self,
         records: &mut [Record<A, P>],
@@ -32,7 +33,8 @@ pub(crate) trait Stage {
     ) -> Result<Answer, Refusal>
         ensures course { (state _ _ self.new (map (account P.state) records.new), answer_or result) ≡ called (rules_of A.Assorter P.Policy) (terms_of (terms self.old)) (length records.old) (state _ _ self.old (map (account P.state) records.old)) (asked call) }
         ensures terms { terms self.new ≡ terms self.old }
-        ensures beyond { drop (terms self.old).needed records.new ≡ drop (terms self.old).needed records.old };
+        ensures beyond { drop (terms self.old).needed records.new ≡ drop (terms self.old).needed records.old }
+        ensures kept { (KeptOnRefusal result self.old self.new) × (KeptOnRefusal result records.old records.new) };
 }
 
 impl Stage for Audit {
