@@ -1,6 +1,8 @@
 -- An audit just opened.
 use Rattle.std.proofs.Common.{◌≡◌, ℕ, zero, suc, ◌≤◌, Bool, true, false, ◌||◌, List, [], ◌∷◌, map, length, take, drop, Ok, sym, refl, ap, ◌∙◌, subst, arith}
 use Rattle.std.specs.List.{AllByRecursion}
+use Rattle.std.proofs.Math.Logic.{∥∥₁_elim}
+use Rattle.std.proofs.Props.{props}
 use Rattle.std.proofs.ByRecursion.{All-map, All-take, All-weaker}
 use Rattle.std.proofs.lemmas.Simd.{map-map}
 use Rattle.std.proofs.lemmas.List.{length-take-le, take_at}
@@ -8,9 +10,11 @@ use Rattle.std.proofs.lemmas.Bool.{ltb-false, or_parts}
 use Rattle.ballot.specs.declared.Candidate.{Candidate}
 use Rattle.ballot.specs.declared.Contest.{Contest}
 use Rattle.setup.specs.declared.setup.PolicyChoice.{PolicyChoice}
+use Rattle.setup.specs.declared.setup.PolicyChoice.TheVariants.{Fixed, Shrinking}
+use Rattle.setup.specs.Described.{PolicyFits}
 use Rattle.setup.specs.declared.setup.Setup.{Setup}
 use Rattle.acceptance.specs.Held.{HoldsSetup}
-use Rattle.acceptance.proofs.Opening.{opening_facts}
+use Rattle.acceptance.proofs.Opening.{OpeningFacts, opening_facts}
 use Rattle.assertion.specs.declared.assertions.Assertion.{Assertion}
 use Rattle.assertion.specs.Assertions.{Claim, Plan, claim_of, planned}
 use Rattle.assorter.proofs.Lists.{all_from_map}
@@ -27,6 +31,18 @@ use Rattle.calls.specs.Calls.{audit_state}
 use Rattle.calls.specs.Openings.{AlwaysPromised, AsPlanned, Begun, OfSetup, OwnAssertions, by_claim, plan_account}
 use Rattle.calls.specs.Shapes.{terms_of}
 use Rattle.calls.proofs.Plans.{all_of}
+
+-- ---- what an audit relies on
+
+fits_prop : (choice : PolicyChoice) → IsProp (PolicyFits choice)
+fits_prop Fixed = hlevel props
+fits_prop (Shrinking weight) = hlevel props
+
+-- from the fact that is kept beside a setup
+pub relied_on : (s : Setup) (xs : List Contest) (cs : List Candidate) → ∥ HoldsSetup s xs cs ∥₁ → OpeningFacts s xs cs
+relied_on s xs cs held = ∥∥₁_elim held (hlevel (props, fits_prop)) (opening_facts s xs cs)
+
+-- ---- an audit that was started
 
 -- a start that was not refused had enough
 pub had_enough : (too_few : Bool) (done : Unit {0}) → Ok done ≡ start_answer too_few → too_few ≡ false

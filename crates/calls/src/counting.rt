@@ -24,9 +24,7 @@ impl HandCount {
     ) -> Result<(), Refusal>
         ensures { refusal_in result ≡ first_refusal (terms_of self.now.terms) (length records.now) (count_state self.now (map (account P.state) records.now)) (hand_count (shown_of shown.now)) }
     {
-        if records.len() < self.terms.needed {
-            return Err(Refusal::NoRoom);
-        }
+        self.terms.own(records)?;
         check_shown(&self.terms, shown)?;
         if shown.place as u32 != self.counted as u32 + 1 {
             return Err(Refusal::NotTheNextPlace);
@@ -63,15 +61,13 @@ impl HandCount {
         ensures rest { UpheldAlone result }
     {
         let terms = &self.terms;
-        if records.len() < terms.needed {
-            return Err(Refusal::NoRoom);
-        }
+        let own = terms.own(records)?;
         if self.counted < terms.cards {
             return Err(Refusal::CountUnfinished);
         }
         Ok(Closing {
             contests: terms.sizes.len() as u8,
-            upheld: contests_above(terms, &records[..terms.needed]),
+            upheld: contests_above(terms, own),
         })
     }
 }

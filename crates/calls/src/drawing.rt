@@ -1,7 +1,7 @@
 //! The calls of an audit that draws cards.
-ghost use Rattle.std.specs.Prelude.{◌≡◌, ◌≤◌, map, length, take, drop, if◌then◌else◌};
+ghost use Rattle.std.specs.Prelude.{◌≡◌, ◌≤◌, map, length, drop, if◌then◌else◌};
 ghost use Rattle.betting.specs.Accounts.{account};
-ghost use Rattle.course.specs.Course.{all_settled, no_draws_left, rules_of};
+ghost use Rattle.course.specs.Course.{no_draws_left, rules_of};
 ghost use Rattle.course.specs.Course.Call.{entry, verdict};
 ghost use Rattle.verdict.specs.declared.Finding.TheVariants.{Confirm, Continue, FullHandCount};
 ghost use Rattle.calls.specs.Calls.{audit_state, called, ConfirmsByRisk, DrawsWithin, finding_or, first_refusal, KeptOnRefusal, refusal_in, RisksAlone, taken_or};
@@ -17,13 +17,13 @@ use verdict::{Finding, Verdict};
 use walks::{each_settled, enter_each};
 
 impl Audit {
-    /// Whether no assertion wants a draw, or the draws are spent.
-    fn is_spent<A, P: Policy>(&self, records: &[Record<A, P>]) -> bool
-        requires { self.now.terms.needed ≤ length records.now }
-        ensures { result ≡ no_draws_left (terms_of self.now.terms) (audit_state self.now (map (account P.state) records.now)) }
+    /// Whether no assertion wants a draw, or the draws are spent, by its own records.
+    fn is_spent<A, P: Policy>(&self, own: &[Record<A, P>]) -> bool
+        requires { length own.now ≤ self.now.terms.needed }
+        ensures { result ≡ no_draws_left (terms_of self.now.terms) (audit_state self.now (map (account P.state) own.now)) }
     {
         let terms = &self.terms;
-        each_settled(&records[..terms.needed], terms.risk_limit) || self.drawn >= terms.draw_limit
+        each_settled(own, terms.risk_limit) || self.drawn >= terms.draw_limit
     }
 
     /// Refuses an entry with its first refusal.
@@ -34,11 +34,9 @@ impl Audit {
     ) -> Result<(), Refusal>
         ensures { refusal_in result ≡ first_refusal (terms_of self.now.terms) (length records.now) (audit_state self.now (map (account P.state) records.now)) (entry (shown_of shown.now)) }
     {
-        if records.len() < self.terms.needed {
-            return Err(Refusal::NoRoom);
-        }
+        let own = self.terms.own(records)?;
         check_shown(&self.terms, shown)?;
-        if self.is_spent(records) {
+        if self.is_spent(own) {
             return Err(Refusal::NoDrawsLeft);
         }
         Ok(())
@@ -78,10 +76,7 @@ impl Audit {
         ensures bounded { DrawsWithin self.now.terms.draw_limit result }
     {
         let terms = &self.terms;
-        if records.len() < terms.needed {
-            return Err(Refusal::NoRoom);
-        }
-        let own = &records[..terms.needed];
+        let own = terms.own(records)?;
         let settled = each_settled(own, terms.risk_limit);
         Ok(Verdict {
             finding: found_by(settled, self.drawn == terms.draw_limit),

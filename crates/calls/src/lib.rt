@@ -2,6 +2,7 @@
 //! counted, the hand count closed.
 #![tactic(auto)]
 
+mod accepted;
 mod answers;
 mod counting;
 mod drawing;

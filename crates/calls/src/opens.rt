@@ -1,7 +1,6 @@
 //! The calls that open an audit.
 ghost use Rattle.std.specs.Prelude.{◌≡◌, map, drop};
 ghost use Rattle.refusal.specs.declared.Refusal.TheVariants.{NoSetup};
-ghost use Rattle.acceptance.specs.Held.{HoldsSetup};
 ghost use Rattle.betting.specs.Accounts.{account};
 ghost use Rattle.betting.specs.Policies.{chosen_state};
 ghost use Rattle.course.specs.Course.{rules_of};
@@ -9,12 +8,13 @@ ghost use Rattle.course.specs.Openings.{own_rules};
 ghost use Rattle.opening.specs.Starts.{any_fewer, fewer, RefusedUnchanged, start_answer};
 ghost use Rattle.calls.specs.Openings.{AlwaysPromised, BegunIfOpened, KeepsOthers, OfSetup, Opens, OwnIfOpened, PlansIfStarted, StartsWith};
 
+use crate::accepted::Accepted;
 use crate::opened::NotOpened;
 use crate::states::Audit;
-use crate::terms::audit_terms;
 use acceptance::holds_setup;
 use assertion::{Assertion, Planned, list_assertions};
 use assorter::Assorter;
+use ballot::limits::ASSERTIONS;
 use ballot::{Candidate, Contest};
 use betting::{ChosenPolicy, Policy, Record};
 use bounded::List;
@@ -32,40 +32,31 @@ fn no_setup(setup: Setup) -> NotOpened
     }
 }
 
-/// An audit of an accepted setup that has drawn nothing.
-fn begin<A: Assorter, P: Policy>(
-    setup: &Setup,
-    contests: &[Contest],
-    candidates: &[Candidate],
-) -> Audit
-    requires { HoldsSetup setup.now contests.now candidates.now }
-    ensures terms { OfSetup setup.now contests.now result }
-    ensures promise { AlwaysPromised (rules_of A.Assorter P.Policy) result }
-{
-    Audit {
-        terms: audit_terms(setup, contests, candidates),
-        drawn: 0,
+impl Accepted<'_> {
+    /// An audit that has drawn nothing.
+    fn begin<A: Assorter, P: Policy>(&self) -> Audit
+        ensures terms { OfSetup self.now.setup.now self.now.contests.now result }
+        ensures promise { AlwaysPromised (rules_of A.Assorter P.Policy) result }
+    {
+        Audit {
+            terms: self.terms(),
+            drawn: 0,
+        }
     }
-}
 
-/// Starts a record for each assertion that the contests make, in order.
-fn start_own(
-    setup: &Setup,
-    contests: &[Contest],
-    candidates: &[Candidate],
-    records: &mut [Record<Assertion, ChosenPolicy>],
-) -> Result<(), Refusal>
-    requires { HoldsSetup setup.now contests.now candidates.now }
-    ensures answer { result ≡ start_answer (fewer setup.now.assertions records.old) }
-    ensures accounts { PlansIfStarted setup.now contests.now candidates.now (map (account chosen_state) records.new) result }
-    ensures beyond { drop setup.now.assertions records.new ≡ drop setup.now.assertions records.old }
-    ensures refused { RefusedUnchanged result records.old records.new }
-{
-    // Fixed memory for the list, since nothing here allocates.
-    let mut slots = [Planned::BLANK; 256];
-    let mut planned = List::over(&mut slots);
-    list_assertions(contests, candidates, &mut planned)?;
-    start_records(planned.items(), setup.terms.policy, records)
+    /// Starts a record for each assertion that the contests make, in order.
+    fn start_own(&self, records: &mut [Record<Assertion, ChosenPolicy>]) -> Result<(), Refusal>
+        ensures answer { result ≡ start_answer (fewer self.now.setup.now.assertions records.old) }
+        ensures accounts { PlansIfStarted self.now.setup.now self.now.contests.now self.now.candidates.now (map (account chosen_state) records.new) result }
+        ensures beyond { drop self.now.setup.now.assertions records.new ≡ drop self.now.setup.now.assertions records.old }
+        ensures refused { RefusedUnchanged result records.old records.new }
+    {
+        // Fixed memory for the list, since nothing here allocates.
+        let mut slots = [Planned::BLANK; ASSERTIONS as usize];
+        let mut planned = List::over(&mut slots);
+        list_assertions(self.contests, self.candidates, &mut planned)?;
+        start_records(planned.items(), self.setup.terms.policy, records)
+    }
 }
 
 /// Opens a setup, with its lists as read, to an audit: fills one record for each assertion of the
@@ -86,15 +77,21 @@ pub fn open(
     if !holds_setup(&setup, contests, candidates) {
         return Err(no_setup(setup));
     }
+    let accepted = Accepted {
+        setup: &setup,
+        contests,
+        candidates,
+    };
     // No `?` here: the error takes the setup back, which an opened audit still needs.
-    if let Err(refusal) = start_own(&setup, contests, candidates, records) {
+    if let Err(refusal) = accepted.start_own(records) {
         return Err(NotOpened { refusal, setup });
     }
-    Ok(begin::<Assertion, ChosenPolicy>(&setup, contests, candidates))
+    Ok(accepted.begin::<Assertion, ChosenPolicy>())
 }
 
 /// The same with the caller's own assorters and policies, in assertion order. Too few assorters or
 /// policies are refused as too few records are.
+// Apart from `open`: the two say different things of the records, which start from the contests' own assertions or from what the caller gives.
 pub fn open_with<A: Assorter + Copy, P: Policy + Copy>(
     setup: Setup,
     contests: &[Contest],
@@ -114,5 +111,10 @@ pub fn open_with<A: Assorter + Copy, P: Policy + Copy>(
     if let Err(refusal) = start_with(setup.assertions as usize, assorters, policies, records) {
         return Err(NotOpened { refusal, setup });
     }
-    Ok(begin::<A, P>(&setup, contests, candidates))
+    let accepted = Accepted {
+        setup: &setup,
+        contests,
+        candidates,
+    };
+    Ok(accepted.begin::<A, P>())
 }

@@ -8,6 +8,7 @@ ghost use Rattle.calls.specs.Shapes.{OnlyFirst, terms_of};
 
 use super::{Size, Terms};
 use assorter::Assorter;
+use ballot::limits::CONTESTS;
 use betting::{Policy, Record};
 use walks::{all_above, worst_risk};
 
@@ -29,12 +30,15 @@ fn tell_each<R, T: Copy, F: Fn(&[R]) -> T>(sizes: &[Size], records: &[R], places
 }
 
 /// Each contest's largest risk; past the contests there are zeros.
-pub(crate) fn contest_risks<A, P: Policy>(terms: &Terms, records: &[Record<A, P>]) -> [u16; 8]
+pub(crate) fn contest_risks<A, P: Policy>(
+    terms: &Terms,
+    records: &[Record<A, P>],
+) -> [u16; CONTESTS]
     ensures parts { take (length terms.now.sizes.items) result ≡ map worst_risk (parts (terms_of terms.now).assertions (map (account P.state) records.now)) }
     ensures rest { OnlyFirst (length terms.now.sizes.items) 0 result }
 {
     // An array, as a verdict has it.
-    let mut risks = [0; 8];
+    let mut risks = [0; CONTESTS];
     tell_each(
         &terms.sizes,
         records,
@@ -49,12 +53,12 @@ pub(crate) fn contest_risks<A, P: Policy>(terms: &Terms, records: &[Record<A, P>
 pub(crate) fn contests_above<A: Assorter, P: Policy>(
     terms: &Terms,
     records: &[Record<A, P>],
-) -> [bool; 8]
+) -> [bool; CONTESTS]
     ensures parts { take (length terms.now.sizes.items) result ≡ map (all_above (rules_of A.Assorter P.Policy) terms.now.cards) (parts (terms_of terms.now).assertions (map (account P.state) records.now)) }
     ensures rest { OnlyFirst (length terms.now.sizes.items) false result }
 {
     // An array, as a closing has it.
-    let mut above = [false; 8];
+    let mut above = [false; CONTESTS];
     let cards = terms.cards;
     tell_each(
         &terms.sizes,

@@ -1,16 +1,16 @@
 //! The terms with which an audit of a setup begins.
 ghost use Rattle.std.specs.Prelude.{◌≡◌, ◌≤◌, map, length};
-ghost use Rattle.acceptance.specs.Held.{HoldsSetup};
 ghost use Rattle.calls.specs.Openings.{setup_terms, size_of};
 ghost use Rattle.calls.specs.Shapes.{terms_of};
 
 use super::{Size, Terms};
+use crate::accepted::Accepted;
 use arrayvec::ArrayVec;
-use ballot::{Candidate, Contest};
-use setup::setup::Setup;
+use ballot::Contest;
+use ballot::limits::CONTESTS;
 
 /// The size of each contest.
-fn contest_sizes(contests: &[Contest]) -> ArrayVec<Size, 8>
+fn contest_sizes(contests: &[Contest]) -> ArrayVec<Size, CONTESTS>
     requires { length contests.now ≤ 8 }
     ensures { result.items ≡ map size_of contests.now }
 {
@@ -24,17 +24,19 @@ fn contest_sizes(contests: &[Contest]) -> ArrayVec<Size, 8>
     sizes
 }
 
-/// The terms of an accepted setup.
-pub(crate) fn audit_terms(setup: &Setup, contests: &[Contest], candidates: &[Candidate]) -> Terms
-    requires { HoldsSetup setup.now contests.now candidates.now }
-    ensures terms { terms_of result ≡ setup_terms setup.now contests.now }
-    ensures needed { result.needed ≡ setup.now.assertions }
-{
-    Terms {
-        cards: setup.cards,
-        risk_limit: setup.terms.risk_limit,
-        draw_limit: setup.terms.draw_limit,
-        sizes: contest_sizes(contests),
-        needed: setup.assertions as usize,
+impl Accepted<'_> {
+    /// The terms of its audit.
+    pub(crate) fn terms(&self) -> Terms
+        ensures terms { terms_of result ≡ setup_terms self.now.setup.now self.now.contests.now }
+        ensures needed { result.needed ≡ self.now.setup.now.assertions }
+    {
+        let setup = self.setup;
+        Terms {
+            cards: setup.cards,
+            risk_limit: setup.terms.risk_limit,
+            draw_limit: setup.terms.draw_limit,
+            sizes: contest_sizes(self.contests),
+            needed: setup.assertions as usize,
+        }
     }
 }

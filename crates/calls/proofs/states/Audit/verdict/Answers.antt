@@ -25,6 +25,6 @@ returns-clause-confirms g c =
     let R = rules_of g.A.Assorter g.P.Policy in
     let risks = take c.len.result c.contest_risks.result in
     let there : sum t.assertions ≡ length σ.accounts =
-    sym a.terms.total ∙ omega (arith, length-take n (map m rs), length-map rs m, c.if-records-terms.false) in
+    sym a.terms.total ∙ omega (arith, length-take n (map m rs), length-map rs m, c.in_ok-own.ensures.0) in
     let tells : (step R t σ verdict).1 ≡ finding c.found_by.result σ.drawn risks = grind (arith, common_steps, take-map) in
     confirms_by_risk R t σ there (omega (arith, a.terms.ranges.1)) [] c.found_by.result σ.drawn risks tells

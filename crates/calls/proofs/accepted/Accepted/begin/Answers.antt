@@ -1,7 +1,7 @@
 use Rattle.course.specs.Course.{rules_of}
 use Rattle.course.proofs.BoundsAndLaws.{promised}
 use Rattle.course.proofs.Rules.{lawful_by}
-use Rattle.calls.proofs.opens.begin.Goals as goal
+use Rattle.calls.proofs.accepted.Accepted.begin.Goals as goal
 
 pub returns-clause-promise : goal.returns-clause-promise
 returns-clause-promise g c = λ accounts.
