@@ -1,7 +1,7 @@
 //! A list of at most as many items as the slice that its owner lends has places.
 #![tactic(auto)]
 
-ghost use Rattle.std.specs.Prelude.{◌≡◌, [], ◌∷◌, length};
+ghost use Rattle.std.specs.Prelude.{◌≡◌, ◌↔◌, IsTrue, [], ◌∷◌, length};
 ghost use Rattle.bounded.specs.Lists.{append_answer, appended, emptied, get_answer, held, replace_answer, replaced};
 
 use refusal::Refusal;
@@ -31,6 +31,13 @@ impl<'a, T: Copy> List<'a, T> {
         ensures { result ≡ length (held self.now).items }
     {
         self.len.min(self.slots.len())
+    }
+
+    /// Whether there are no items.
+    pub fn is_empty(&self) -> bool
+        ensures { IsTrue result ↔ ((held self.now).items ≡ []) }
+    {
+        self.len() == 0
     }
 
     /// How many items there is memory for.
@@ -78,6 +85,7 @@ impl<'a, T: Copy> List<'a, T> {
         if i >= self.len() {
             return Err(Refusal::PastTheEnd);
         }
+        // By index, as in `append`.
         self.slots[i] = x;
         Ok(())
     }
@@ -116,7 +124,9 @@ mod tests {
         let mut array = [7u16; 1];
         let mut list = List::over(&mut array);
         assert_eq!(rt; list.get(0), Err(Refusal::PastTheEnd));
+        assert_eq!(rt; list.is_empty(), true);
         assert_eq!(rt; list.append(1), Ok(()));
+        assert_eq!(rt; list.is_empty(), false);
         assert_eq!(rt; list.append(2), Err(Refusal::NoRoom));
         assert_eq!(rt; list.replace(1, 2), Err(Refusal::PastTheEnd));
         assert_eq!(rt; list.get(0), Ok(1));
