@@ -1,4 +1,5 @@
-ghost use Rattle.std.specs.Prelude.{◌≡◌, map, length, take, drop};
+ghost use Rattle.std.specs.Prelude.{◌≡◌, ℕ, ◌<◌, map, length, take, drop};
+ghost use Rattle.std.specs.List.{AllZip, range_with_len};
 ghost use Rattle.betting.specs.Accounts.{account};
 ghost use Rattle.betting.specs.Policies.{chosen_state};
 ghost use Rattle.opening.specs.Starts.{after_start, any_fewer, fewer, RefusedUnchanged, start_answer, started, started_plan};
@@ -8,6 +9,17 @@ use assertion::{Assertion, Planned};
 use betting::{ChosenPolicy, Policy, Record};
 use refusal::Refusal;
 use setup::setup::PolicyChoice;
+
+/// Starts each record by its index.
+fn start_each<R: Copy, F: Fn(usize) -> R>(records: &mut [R], start: F)
+    requires { (i : ℕ) → i < length records.old → F.pre start i }
+    ensures { AllZip (F.post start) (range_with_len 0 (length records.old)) records.new }
+{
+    // By index: of records that a zip with `iter_mut` wrote, a proof knows only how many there are.
+    for (i, held) in records.iter_mut().enumerate() {
+        *held = start(i);
+    }
+}
 
 /// One record for each planned assertion, that has seen no card; too few records are refused, and
 /// then nothing changes.
@@ -24,16 +36,15 @@ pub fn start_records(
     if records.len() < planned.len() {
         return Err(Refusal::NoRoom);
     }
-    // By places, since a zip with `records.iter_mut()` leaves nothing proved of the records.
-    for (i, next) in planned.iter().enumerate() {
-        records[i] = Record::start(next.assertion, first_policy(next, policy));
-    }
+    start_each(&mut records[..planned.len()], |i| {
+        let next = &planned[i];
+        Record::start(next.assertion, first_policy(next, policy))
+    });
     Ok(())
 }
 
 /// The same of the caller's own assorters and policies, in assertion order: the first `count` of
 /// each. Too few records, assorters or policies are refused, and then nothing changes.
-// Apart from `start_records`, which makes each policy from what is planned, and holds no list of them.
 pub fn start_with<A: Copy, P: Policy + Copy>(
     count: usize,
     assorters: &[A],
@@ -48,9 +59,8 @@ pub fn start_with<A: Copy, P: Policy + Copy>(
     if records.len() < count || assorters.len() < count || policies.len() < count {
         return Err(Refusal::NoRoom);
     }
-    // By places too: after a zip of the three lists the same is left to prove.
-    for (i, held) in records[..count].iter_mut().enumerate() {
-        *held = Record::start(assorters[i], policies[i]);
-    }
+    start_each(&mut records[..count], |i| {
+        Record::start(assorters[i], policies[i])
+    });
     Ok(())
 }

@@ -1,25 +1,20 @@
-use Rattle.std.proofs.Common.{map, length, sym, ap, ◌∙◌, arith}
+use Rattle.std.proofs.Common.{map, length, take, ◌<◌, arith, rules}
 use lib.ListN.{length-map}
-use Rattle.std.proofs.lemmas.List.{drop-set-lt, get_or-map}
-use Rattle.betting.specs.Accounts.{account, opened}
+use Rattle.std.proofs.lemmas.List.{drop-map, length-take-le, map-append}
+use Rattle.std.proofs.lemmas.Grind.{common_steps}
+use Rattle.betting.specs.Accounts.{account}
 use Rattle.betting.specs.Policies.{chosen_state}
 use Rattle.opening.specs.Starts.{started_plan}
-use Rattle.opening.proofs.Fills.{fill_more}
+use Rattle.opening.proofs.Fills.{at_mapped, made_read}
 use Rattle.opening.proofs.starts.start_records.Goals as goal
 
-pub loop-i-preserved : goal.loop-i-preserved
-loop-i-preserved c =
-    let m = account chosen_state in
-    let f = started_plan c.args.policy in
+pub returns-clause-accounts : goal.returns-clause-accounts
+returns-clause-accounts c =
     let xs = c.args.planned.now in
-    let rs = c.loop-i.records in
-    let i = c.loop-i.i in
-    let x = c.index-planned-i.result in
-    record {
-      accounts =
-          fill_more m (map f xs) (map m c.args.records.now) i rs c.start.result (f x) (omega (arith, length-map xs f))
-          (omega (arith, length-map c.args.records.now m)) c.loop-i.invariant.accounts
-          (c.start.ensures ∙ ap (opened x.assertion) c.first_policy.ensures)
-          (ap f c.index-planned-i.is ∙ sym (get_or-map f xs i x (f x) (omega arith)));
-      beyond = drop-set-lt (length xs) rs i c.start.result (omega arith) ∙ c.loop-i.invariant.beyond;
-    }
+    let n = length xs in
+    let f = started_plan c.args.policy in
+    let long = length-take-le n c.args.records.now (omega arith) in
+    let read = made_read _ (account chosen_state) _ c.start_each.new.records (map f xs)
+    c.start_each.ensures (omega (arith, long, length-map xs f))
+    (λ i r in-ys q. let in-xs : i < n = omega (arith, in-ys, length-map xs f) in search (rules, at_mapped, arith)) in
+    grind (arith, common_steps, map-append, drop-map)
