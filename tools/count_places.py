@@ -29,7 +29,7 @@ PATTERNS = [
     (5, "contest, its number and its candidates one by one", r"number: u8, contest: &Contest|^\s+number: u8,$"),
     (5, "contests and their candidates", r"contests: &\[Contest\], candidates: &\[Candidate\]|^\s+candidates: &\[Candidate\],$"),
     (6, "an array with a length beside it, or beside another array", r"^\s+(pub(\([a-z]+\))? )?\w+: \[\w+; (8|256)\],?$"),
-    (6, "an array that is filled and cut", r"= \[[^;\]]+; (8|256|LONGEST)\]"),
+    (6, "an array that is filled and cut", r"= \[[^;\]]+; (8|256|LONGEST|CONTESTS|ASSERTIONS as usize)\]"),
     (7, "a switch from a byte to a step", r"match byte\b"),
     (7, "a trait object, a function pointer or a boxed closure", r"\bdyn \w|: fn\(|Box<"),
 ]
