@@ -11,6 +11,7 @@ use refusal::Refusal;
 use setup::setup::PolicyChoice;
 
 /// Starts each record by its index.
+#[tactic(auto, using(crate::proofs::Fills::made_more))]
 fn start_each<R: Copy, F: Fn(usize) -> R>(records: &mut [R], start: F)
     requires { (i : ℕ) → i < length records.old → F.pre start i }
     ensures { AllZip (F.post start) (range_with_len 0 (length records.old)) records.new }

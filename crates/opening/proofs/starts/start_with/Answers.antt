@@ -1,4 +1,4 @@
-use Rattle.std.proofs.Common.{◌<◌, map, length, take, arith, rules}
+use Rattle.std.proofs.Common.{◌<◌, map, take, arith, rules}
 use Rattle.std.proofs.lemmas.List.{drop-map, length-take-le, map-append}
 use Rattle.std.proofs.lemmas.Grind.{common_steps}
 use Rattle.betting.specs.Accounts.{account}
