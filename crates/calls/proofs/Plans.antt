@@ -125,7 +125,7 @@ listed s xs cs f before room =
 -- ---- the records that a start leaves
 
 module _ (s : Setup) (xs : List Contest) (cs : List Candidate) (f : OpeningFacts s xs cs) (items : List Planned) (same : map meant items ≡ planned 0 xs cs) (count : length items ≡ sum_by assertion_count xs) where
-  pub as_many : length items ≡ s.assertions
+  as_many : length items ≡ s.assertions
   as_many = count ∙ f.assertions
 
   abbrev policy : PolicyChoice
