@@ -25,7 +25,7 @@ use Rattle.course.specs.Course.{Rules, State}
 use Rattle.course.specs.Openings.{own_rules, OwnAccounts}
 use Rattle.course.proofs.Openings.{contradicted_when_lost, limits_wrong_boards}
 use Rattle.opening.specs.Starts.{after_start, any_fewer, fewer, start_answer, started}
-use Rattle.opening.proofs.Fills.{in_started}
+use Rattle.opening.proofs.Fills.{started_long}
 use Rattle.calls.specs.declared.states.Audit.{Audit}
 use Rattle.calls.specs.Calls.{audit_state}
 use Rattle.calls.specs.Openings.{AlwaysPromised, AsPlanned, Begun, OfSetup, OwnAssertions, by_claim, plan_account}
@@ -80,10 +80,6 @@ module _ {A S : Type 0} where
   with_fresh n accounts xs ss e = subst (AllByRecursion Fresh) (sym e) (All-take Fresh n (started xs ss) (started_fresh xs ss))
 
 module _ {A P S : Type 0} (st : P → S) (xs : List A) (ps : List P) where
-  enough_started : (n : ℕ) → n ≤ length xs → n ≤ length ps → n ≤ length (started xs (map st ps))
-  enough_started zero in-xs in-ps = omega arith
-  enough_started (suc i) in-xs in-ps = in_started st xs ps i in-xs in-ps
-
   pub with_started :
       {R : Type 0} (n : ℕ) (rs : List R) (old new : List (Account A S)) → any_fewer n xs ps rs ≡ false →
       new ≡ after_start (any_fewer n xs ps rs) n (take n (started xs (map st ps))) old →
@@ -94,7 +90,7 @@ module _ {A P S : Type 0} (st : P → S) (xs : List A) (ps : List P) where
       let ys = started xs (map st ps) in
       ap (take n) (e ∙ ap (λ z. after_start z n (take n ys) old) enough)
       ∙ take_at (take n ys) (drop n old) n
-      (length-take-le n ys (enough_started n (ltb-false (length xs) n d.1) (ltb-false (length ps) n b.1)))
+      (length-take-le n ys (started_long st xs ps n (ltb-false (length xs) n d.1) (ltb-false (length ps) n b.1)))
 
 -- ---- with the contests' own assertions
 
