@@ -1,6 +1,7 @@
 ghost use Rattle.std.specs.Prelude.{◌<◌, ◌≤◌};
 
 /// The winner has more than p/q of all votes.
+// Two numbers and no type of their own: in a contest they may still be out of the range that they have here.
 #[derive(Clone, Copy)]
 pub struct Share {
     pub contest: u8,
