@@ -1,4 +1,5 @@
 //! The limits of a setup, part by part.
+// Contests and candidates are two slices, as `holds_setup` is lent them.
 ghost use Rattle.std.specs.Prelude.{◌≤◌, Decides};
 ghost use Rattle.std.specs.List.{AllByRecursion};
 ghost use Rattle.setup.specs.Described.{ContestStands, ContestsStand};

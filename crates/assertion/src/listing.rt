@@ -19,6 +19,7 @@ fn contest_stands(contest: &Contest, candidates: &[Candidate]) -> bool
 }
 
 /// Whether these contests and candidates can be audited.
+// Two slices, here and below: the caller lends the memory that each list was read into.
 fn stand(contests: &[Contest], candidates: &[Candidate]) -> bool
     ensures { result ≡ stands contests.now candidates.now }
 {

@@ -5,6 +5,7 @@ use crate::{Candidate, Contest};
 
 /// Whether each contest passes the test with the candidates after those of the contest before, and
 /// no candidate is left over.
+// Two slices: the caller lends the memory that each list was read into.
 pub fn each_slate<F: Fn(&Contest, &[Candidate]) -> bool>(
     contests: &[Contest],
     candidates: &[Candidate],

@@ -13,7 +13,8 @@ pub struct Record<A, P> {
     ghost ranges: { (wealth ≤ peak) × (1000000000 ≤ peak) × (peak ≤ 100000000000000) × (tally ≤ 65535000) },
 }
 
-// By hand: `Clone` cannot be derived for a struct with a ghost field, if it has type parameters.
+// By hand, and `Copy` with it: `Clone` cannot be derived for a struct with a ghost field, if it has
+// type parameters.
 impl<A: Copy, P: Copy> Clone for Record<A, P> {
     ghost use Rattle.std.specs.Prelude.{◌≡◌, ⊤};
 

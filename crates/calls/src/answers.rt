@@ -7,7 +7,8 @@ use ballot::Card;
 use verdict::{Closing, Verdict};
 
 /// A place, 1 if the card was found there and 0 if it is missing, and the card.
-// The found byte stays as it was read, beside the card: a call answers what is neither 0 nor 1 with a refusal.
+// The found byte stays as it was read, beside the card: a call answers what is neither 0 nor 1 with
+// a refusal.
 #[derive(Clone, Copy)]
 pub struct Shown {
     pub place: u16,

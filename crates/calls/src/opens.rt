@@ -62,7 +62,8 @@ impl Accepted<'_> {
 /// Opens a setup, with its lists as read, to an audit: fills one record for each assertion of the
 /// contests, in order. Lists that hold no accepted setup with these numbers are refused first, then
 /// too few records; then nothing changes, and the setup is given back.
-// Contests and candidates stay two slices, here and below: the caller lends the memory that each list was read into.
+// Contests and candidates stay two slices, here and below: the caller lends the memory that each
+// list was read into.
 pub fn open(
     setup: Setup,
     contests: &[Contest],
@@ -91,7 +92,8 @@ pub fn open(
 
 /// The same with the caller's own assorters and policies, in assertion order. Too few assorters or
 /// policies are refused as too few records are.
-// Apart from `open`: the two say different things of the records, which start from the contests' own assertions or from what the caller gives.
+// Apart from `open`: the two say different things of the records, which start from the contests'
+// own assertions or from what the caller gives.
 pub fn open_with<A: Assorter + Copy, P: Policy + Copy>(
     setup: Setup,
     contests: &[Contest],

@@ -4,7 +4,9 @@ ghost use Rattle.std.specs.Prelude.{◌≤◌};
 use crate::terms::Terms;
 
 /// An audit that draws cards.
-// Each call asks anew whether the records lent are enough: they are lent at each call, by a rule of the project, and no fact can be kept beside a lent `&mut`, since the prover has no rules of borrowing for a ghost field there.
+// Each call asks anew whether the records lent are enough: they are lent at each call, by a rule of
+// the project, and no fact can be kept beside a lent `&mut`, since the prover has no rules of
+// borrowing for a ghost field there.
 #[derive(Drop)]
 pub struct Audit {
     pub(crate) terms: Terms,

@@ -68,6 +68,7 @@ fn print_share(rt: &HostRuntime, share: &Share, candidates: &[Candidate]) -> io:
 }
 
 /// The assertions of contest `number`, counted from 0, each under its number in the audit.
+// The number and the contest's own candidates, here and below: they only meet to be printed.
 fn print_assertions(
     rt: &HostRuntime,
     number: usize,
@@ -113,6 +114,7 @@ fn print_contest(
 }
 
 /// Every contest, with its candidates from the front of those that the contests before it left.
+// `each_slate` only tests; here each contest is printed.
 pub(crate) fn print_contests(
     rt: &HostRuntime,
     lists: &Lists<'_>,

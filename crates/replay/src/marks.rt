@@ -8,7 +8,8 @@ use calls::Shown;
 use std::array;
 
 /// Four bytes as a number, the most significant first.
-// By place, here and below: with `as_chunks::<4>()` it stayed open that the numbers of the chunks are the card's marks.
+// By place, here and below: with `as_chunks::<4>()` it stayed open that the numbers of the chunks
+// are the card's marks.
 fn number(bytes: &[u8; 32], at: usize) -> u32
     requires { at + 4 ≤ 32 }
     ensures { result ≡ four bytes.now at }
@@ -26,6 +27,7 @@ fn card_from(marks: &[u8; 32]) -> Card
 }
 
 /// What a command shows: a place, whether its card was found, and the card's marks.
+// The found byte goes on as the file has it: a call refuses what is neither 0 nor 1.
 pub(crate) fn shown(place: u16, found: u8, marks: &[u8; 32]) -> Shown
     ensures { shown_of result ≡ shown place found (card_of marks.now) }
 {

@@ -19,7 +19,7 @@ pub(crate) fn to_batch(batches: usize, cards: u16, batch: &Batch) -> Result<(), 
     Ok(())
 }
 
-// No `TryFrom` here and above: the operands are numbers of a command and no value of their own.
+// No `TryFrom`: the operands are numbers of a command and no value of their own.
 /// The terms that these operands give, if each is in its range; only a shrinking bet has a weight.
 pub(crate) fn terms_from(risk_limit: u16, draw_limit: u16, policy: u8, weight: u16) -> Option<Terms>
     ensures { result ≡ terms_from risk_limit draw_limit policy weight }
