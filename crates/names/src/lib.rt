@@ -1,6 +1,9 @@
 //! Names and kinds as members read them.
 #![tactic(auto)]
 
+ghost use Rattle.std.specs.Prelude.{Some};
+ghost use Rattle.names.specs.Shown.{kind_line, many_line};
+
 use ballot::Kind;
 use std::fmt;
 
@@ -34,6 +37,8 @@ impl fmt::Display for Name {
 pub struct KindName(pub Kind);
 
 impl fmt::Display for KindName {
+    ghost output = { λ x. Some (kind_line x.0) };
+
     fn fmt<W: fmt::Write>(&self, f: &mut fmt::Formatter<W>) -> fmt::Result {
         match self.0 {
             Kind::Plurality => write!(f, "plurality"),
@@ -48,6 +53,8 @@ impl fmt::Display for KindName {
 pub struct Many<'a>(pub usize, pub &'a str, pub &'a str);
 
 impl fmt::Display for Many<'_> {
+    ghost output = { λ x. Some (many_line x.0 x.1.now x.2.now) };
+
     fn fmt<W: fmt::Write>(&self, f: &mut fmt::Formatter<W>) -> fmt::Result {
         let n = self.0;
         let word = if n == 1 { self.1 } else { self.2 };
