@@ -224,6 +224,62 @@ mod tests {
         Ok(())
     }
 
+    // What a refusal must leave of the record.
+    fn sums(records: &Records) -> (u64, u64, u32) {
+        let [held, _] = records;
+        (held.wealth, held.peak, held.tally)
+    }
+
+    #[test]
+    fn refused_entries_leave_the_record(rt: HostRuntime) -> Result<(), Fail> {
+        let mut records = blank();
+        let mut audit = opened(100, 60, 40, &mut records)?;
+        assert_eq!(rt; audit.enter(&mut records, &shown(1, 1, ADAMS)), Ok(()));
+        assert_eq!(rt; sums(&records), (1_200_000_000, 1_200_000_000, 0));
+        assert_eq!(rt;
+            audit.enter(&mut records, &shown(0, 1, ADAMS)),
+            Err(Refusal::BadPlace)
+        );
+        assert_eq!(rt;
+            audit.enter(&mut records, &shown(1, 2, ADAMS)),
+            Err(Refusal::BadFound)
+        );
+        assert_eq!(rt;
+            audit.enter(&mut records, &shown(1, 0, ADAMS)),
+            Err(Refusal::BadMarks)
+        );
+        assert_eq!(rt; sums(&records), (1_200_000_000, 1_200_000_000, 0));
+        Ok(())
+    }
+
+    #[test]
+    fn refused_counts_leave_the_tally(rt: HostRuntime) -> Result<(), Fail> {
+        let mut records = blank();
+        let mut hand = opened(2, 2, 0, &mut records)?.escalate();
+        assert_eq!(rt; hand.count(&mut records, &shown(1, 1, ADAMS)), Ok(()));
+        assert_eq!(rt;
+            hand.count(&mut records, &shown(2, 2, ADAMS)),
+            Err(Refusal::BadFound)
+        );
+        assert_eq!(rt;
+            hand.count(&mut records, &shown(2, 0, ADAMS)),
+            Err(Refusal::BadMarks)
+        );
+        assert_eq!(rt;
+            hand.count(&mut records, &shown(1, 1, ADAMS)),
+            Err(Refusal::NotTheNextPlace)
+        );
+        assert_eq!(rt; hand.close(&records), Err(Refusal::CountUnfinished));
+        assert_eq!(rt; hand.close(&records[0..0]), Err(Refusal::NoRoom));
+        assert_eq!(rt; sums(&records), (1_000_000_000, 1_000_000_000, 2));
+        assert_eq!(rt; hand.count(&mut records, &shown(2, 0, NOBODY)), Ok(()));
+        let closing = hand
+            .close(&records)
+            .map_err(|_| Fail::new("the count is finished"))?;
+        assert!(rt; !closing.upheld[0], "2 is not above 2");
+        Ok(())
+    }
+
     #[test]
     fn not_opened(rt: HostRuntime) -> Result<(), Fail> {
         let mut records = blank();
