@@ -1,5 +1,5 @@
 -- An audit just opened.
-use Rattle.std.proofs.Common.{◌≡◌, ℕ, zero, suc, ◌≤◌, Bool, true, false, ◌||◌, List, [], ◌∷◌, map, length, take, drop, Ok, sym, refl, ap, ◌∙◌, subst, arith}
+use Rattle.std.proofs.Common.{◌≡◌, ℕ, Bool, true, false, ◌||◌, List, [], ◌∷◌, map, length, take, drop, Ok, sym, refl, ap, ◌∙◌, subst, arith}
 use Rattle.std.specs.List.{AllByRecursion}
 use Rattle.std.proofs.Math.Logic.{∥∥₁_elim}
 use Rattle.std.proofs.Props.{props}
@@ -23,7 +23,7 @@ use Rattle.betting.specs.Policies.{Chosen}
 use Rattle.course.specs.Terms as course
 use Rattle.course.specs.Course.{Rules, State}
 use Rattle.course.specs.Openings.{own_rules, OwnAccounts}
-use Rattle.course.proofs.Openings.{contradicted_when_lost, limits_wrong_boards}
+use Rattle.course.proofs.Openings.{contradicted_when_lost, hand_count_decides, limits_wrong_boards}
 use Rattle.opening.specs.Starts.{after_start, any_fewer, fewer, start_answer, started}
 use Rattle.opening.proofs.Fills.{started_long}
 use Rattle.calls.specs.declared.states.Audit.{Audit}
@@ -140,4 +140,6 @@ module _ (s : Setup) (xs : List Contest) (cs : List Candidate) (h : HoldsSetup s
     as_planned = same;
     contradicted_when_lost = contradicted_when_lost xs cs t σ own_accounts;
     limits_wrong_boards = limits_wrong_boards xs cs t σ own_accounts ((promise accounts).risk_limited own_begun.fresh);
+    hand_count_decides =
+        hand_count_decides xs cs t σ own_accounts (promise accounts).counts_decide own_begun.fresh audit.terms.ranges.4;
   }

@@ -18,7 +18,7 @@ use Rattle.course.specs.Terms as course
 use Rattle.course.specs.Course.{Rules}
 use Rattle.course.specs.Bounds.{Opened}
 use Rattle.course.specs.Example.{half_at}
-use Rattle.course.specs.Openings.{ContradictedWhenLost, LimitsWrongBoards, top_at}
+use Rattle.course.specs.Openings.{ContradictedWhenLost, HandCountDecides, LimitsWrongBoards, top_at}
 use Rattle.course.specs.Promise.{Promised}
 use Rattle.opening.specs.Starts.{started}
 use Rattle.calls.specs.declared.opened.NotOpened.{NotOpened}
@@ -121,6 +121,7 @@ module _ (s : Setup) (xs : List Contest) (cs : List Candidate) (accounts : List 
     pub as_planned : AsPlanned
     pub contradicted_when_lost : ContradictedWhenLost xs cs (terms_of audit.terms) (audit_state audit accounts)
     pub limits_wrong_boards : LimitsWrongBoards xs cs (terms_of audit.terms) (audit_state audit accounts)
+    pub hand_count_decides : HandCountDecides xs cs (terms_of audit.terms) (audit_state audit accounts)
 
   abbrev pub OwnIfOpened : Result Audit NotOpened → Type 0
   OwnIfOpened (Ok audit) = OwnAssertions audit

@@ -1,5 +1,6 @@
 -- What the accounts of the contests' own assertions tell of the outcomes.
-use Rattle.std.proofs.Common.{◌≡◌, ℕ, zero, suc, ◌+◌, ◌<◌, true, ◌⊎◌, List, [], ◌∷◌, ◌++◌, map, length, get_or, take, drop, sym, refl, ap, ◌∙◌, subst, inl, inr, ⊎_elim, arith}
+use Rattle.std.proofs.Common.{◌≡◌, ℕ, zero, suc, ◌+◌, ◌<◌, ◌≤◌, true, ◌⊎◌, List, [], ◌∷◌, ◌++◌, map, length, get_or, take, drop, sym, refl, ap, ◌∙◌, subst, inl, inr, ⊎_elim, arith}
+use lib.ListN.{length-map}
 use Rattle.std.specs.List.{AllByRecursion}
 use Rattle.std.proofs.ByRecursion.{All-map}
 use Rattle.std.proofs.lemmas.List.{drop_at, drop-map, take_at, take-map}
@@ -19,8 +20,10 @@ use Rattle.betting.specs.Accounts.{Account, opened}
 use Rattle.betting.specs.Policies.{Chosen}
 use Rattle.course.specs.Terms.{Terms}
 use Rattle.course.specs.Course.{State, parts}
-use Rattle.course.specs.Bounds.{Any, accounts_of, RiskLimited}
-use Rattle.course.specs.Openings.{own_rules, ContradictedWhenLost, LimitsWrongBoards, OwnAccounts, Won, WonFrom}
+use Rattle.course.specs.Scripts.{Ballot}
+use Rattle.course.specs.Bounds.{Any, Opened, accounts_of, RiskLimited}
+use Rattle.course.specs.Laws.{ClaimsHold, CountsDecide}
+use Rattle.course.specs.Openings.{own_rules, ContradictedWhenLost, HandCountDecides, LimitsWrongBoards, OwnAccounts, Won, WonFrom}
 use Rattle.course.proofs.Deciding.{all_or_any}
 
 -- accounts just opened have seen no card
@@ -85,17 +88,34 @@ part_won j (suc k) (x ∷ xs) cs ys h same inside cards =
     part_won (j + 1) k xs rest (drop n ys) b.1 later (omega arith) cards
 
 module _ (xs : List Contest) (cs : List Candidate) (t : Terms) (σ : State Assertion Chosen) (own : OwnAccounts xs cs t σ) where
+  claims_tell_won : (b : Ballot) (k : ℕ) → k < length xs → JustWhen (ClaimsHold own_rules t σ b k) (Won k xs cs b.cards)
+  claims_tell_won b k inside =
+      let P : Account Assertion Chosen → Type 0 = λ x. Holds (says x) b.cards in
+      subst (λ ns. JustWhen (AllByRecursion P (get_or (parts ns σ.accounts) k [])) (Won k xs cs b.cards)) (sym own.parts_are)
+      (part_won 0 k xs cs σ.accounts own.stand own.claims_are inside b.cards)
+
   pub contradicted_when_lost : ContradictedWhenLost xs cs t σ
   contradicted_when_lost b k inside =
       let P : Account Assertion Chosen → Type 0 = λ x. Holds (says x) b.cards in
       let part = accounts_of own_rules t σ k in
-      let W = Won k xs cs b.cards in
-      let tell : JustWhen (AllByRecursion P part) W =
-      subst (λ ns. JustWhen (AllByRecursion P (get_or (parts ns σ.accounts) k [])) W) (sym own.parts_are)
-      (part_won 0 k xs cs σ.accounts own.stand own.claims_are inside b.cards) in (
+      let tell = claims_tell_won b k inside in (
         λ bad won. some_not_all P part bad (tell.1 won),
         λ lost. ⊎_elim (λ all. absurd (lost (tell.0 all))) (λ bad. bad) (all_or_any P (λ x. holds_or_not (says x) b.cards) part),
       )
 
   pub limits_wrong_boards : RiskLimited own_rules t σ → LimitsWrongBoards xs cs t σ
   limits_wrong_boards limited b fits ms hs k inside lost = limited b fits ms hs k ((contradicted_when_lost b k inside).1 lost)
+
+  pub hand_count_decides : CountsDecide own_rules → Opened σ → t.cards ≤ 65535 → HandCountDecides xs cs t σ
+  hand_count_decides decide fresh few before h b fits =
+      let closes = decide t σ fresh few before h b fits in
+      let within : (k : ℕ) → k < length xs → k < length t.assertions =
+      λ k lt. subst (λ n. k < n) (sym (ap length own.parts_are ∙ length-map xs assertion_count)) lt in
+      record {
+        outcomes = closes.outcomes;
+        answer = closes.answer;
+        only_if_won = λ k lt e. (claims_tell_won b k lt).0 (closes.only_if k (within k lt) e);
+        just_when_won = λ found k lt.
+            let hold = closes.just_when found k (within k lt) in
+            let tell = claims_tell_won b k lt in (λ e. tell.0 (hold.0 e), λ won. hold.1 (tell.1 won));
+      }

@@ -75,12 +75,15 @@ module _ {A S : Type 0} (R : Rules A S) (t : Terms) where
     | upheld us ↦ ((k : ℕ) → slice_index_or us k false ≡ true → ClaimsHold σ b k)
   ]
 
+  -- What the closing answers after these calls, the escalation and the counts of all places.
+  abbrev pub closing_answer : State A S → List Call → Ballot → Answer
+  closing_answer σ before b = (step R t (left_by σ (before ++ (escalation ∷ counts_to b t.cards))) closing).1
+
   -- The closing after all places were counted upholds a contest only if its claims hold, and, where no card is missing,
   -- just then.
   pub record ClosesRightly (σ : State A S) (before : List Call) (b : Ballot) : Type 0 where
     pub outcomes : List Bool
-    pub answer :
-        (step R t (left_by σ (before ++ (escalation ∷ counts_to b t.cards))) closing).1 ≡ upheld outcomes
+    pub answer : closing_answer σ before b ≡ upheld outcomes
     pub only_if : (k : ℕ) → k < length t.assertions → slice_index_or outcomes k false ≡ true → ClaimsHold σ b k
     pub just_when :
         ((i : ℕ) → b.missing i ≡ false) →

@@ -1,5 +1,6 @@
--- Audits that are opened by the contests' own assertions: their bound in terms of the outcomes.
-use Rattle.std.specs.Prelude.{◌≡◌, ℕ, zero, suc, ◌+◌, ◌*◌, ◌^◌, ◌<◌, ◌≤◌, true, List, [], ◌∷◌, map, length, take, drop, Option}
+-- Audits that are opened by the contests' own assertions: their bound and their hand count in terms of the outcomes.
+use Rattle.std.specs.Prelude.{◌≡◌, ℕ, zero, suc, ◌+◌, ◌*◌, ◌^◌, ◌<◌, ◌≤◌, Bool, true, false, List, [], ◌∷◌, map, length, take, drop, Option, slice_index_or}
+use Rattle.std.specs.List.{AllByRecursion}
 use Rattle.ballot.specs.declared.Candidate.{Candidate}
 use Rattle.ballot.specs.declared.Card.{Card}
 use Rattle.ballot.specs.declared.Contest.{Contest}
@@ -13,9 +14,11 @@ use Rattle.assorter.specs.Values.{Holds, worth}
 use Rattle.chance.specs.Sequences.{sequences, Counted}
 use Rattle.betting.specs.Policies.{Chosen, chosen_bet, chosen_told}
 use Rattle.course.specs.Terms.{Terms}
-use Rattle.course.specs.Course.{Rules, State, course}
+use Rattle.course.specs.Course.{Rules, State, Call, course}
+use Rattle.course.specs.Course.Answer.{upheld}
 use Rattle.course.specs.Scripts.{Ballot, Move, Hand, calls, draws_in}
 use Rattle.course.specs.Bounds.{Any, Contradicted, Fits, WrongAnswer}
+use Rattle.course.specs.Laws.{BeforeEscalation, closing_answer}
 
 -- The top of a claim's values.
 abbrev pub top_at : Claim → ℕ
@@ -64,3 +67,20 @@ module _ (xs : List Contest) (cs : List Candidate) (t : Terms) (σ : State Asser
       (Won k xs cs b.cards → ⊥) → (m : ℕ) →
       Counted (λ s. Any (WrongAnswer own_rules t σ b) (course own_rules t σ (calls t b ms hs s))) (sequences t.cards (draws_in ms)) m →
       1000 * m ≤ t.limit * t.cards ^ draws_in ms
+
+  -- Once each place was counted, with its card as it is or missing, the closing is answered. It upholds a contest only if
+  -- its reported winners truly won, and, where no card is missing, exactly then.
+  pub record ClosesByTheVotes (before : List Call) (b : Ballot) : Type 0 where
+    pub outcomes : List Bool
+    pub answer : closing_answer own_rules t σ before b ≡ upheld outcomes
+    pub only_if_won :
+        (k : ℕ) → k < length xs → slice_index_or outcomes k false ≡ true → Won k xs cs b.cards
+    pub just_when_won :
+        ((i : ℕ) → b.missing i ≡ false) →
+        (k : ℕ) → k < length xs → JustWhen (slice_index_or outcomes k false ≡ true) (Won k xs cs b.cards)
+
+  -- A hand count that shows every card truly and found upholds a contest exactly when its reported winners truly won, and
+  -- with cards missing only then, whatever was entered before it.
+  abbrev pub HandCountDecides : Type 0
+  HandCountDecides =
+      (before : List Call) → AllByRecursion BeforeEscalation before → (b : Ballot) → Fits t b → ClosesByTheVotes before b
