@@ -31,6 +31,7 @@ use Rattle.calls.specs.Calls.{audit_state}
 use Rattle.calls.specs.Openings.{AlwaysPromised, AsPlanned, Begun, OfSetup, OwnAssertions, by_claim, plan_account}
 use Rattle.calls.specs.Shapes.{terms_of}
 use Rattle.calls.proofs.Plans.{all_of}
+use Rattle.calls.proofs.Refusals.{follows_course}
 
 -- ---- what an audit relies on
 
@@ -63,6 +64,7 @@ module _ {A S : Type 0} where
       undrawn = o.undrawn;
       uncounted = refl;
     };
+    follows = follows_course R (terms_of audit.terms) (audit_state audit accounts);
     promise = promise accounts;
   }
 

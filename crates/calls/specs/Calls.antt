@@ -1,5 +1,5 @@
 -- What each call of an audit answers and leaves, by the audit's course.
-use Rattle.std.specs.Prelude.{◌≡◌, ℕ, ◌≤◌, false, cond, List, take, Some, None, Ok, Err, sum, Option, Result, nat_lt}
+use Rattle.std.specs.Prelude.{◌≡◌, ℕ, ◌≤◌, false, cond, List, [], ◌∷◌, map, take, Some, None, Ok, Err, sum, Option, Result, nat_lt}
 use Rattle.std.specs.List.{AllByRecursion}
 use Rattle.refusal.specs.declared.Refusal.{Refusal}
 use Rattle.refusal.specs.declared.Refusal.TheVariants.{NoRoom}
@@ -9,8 +9,8 @@ use Rattle.verdict.specs.declared.Finding.TheVariants.{Confirm}
 use Rattle.verdict.specs.declared.Verdict.{Verdict}
 use Rattle.verdict.specs.declared.Closing.{Closing}
 use Rattle.verdict.specs.Contests.{contest_risks, contests_upheld}
-use Rattle.course.specs.Terms as course
-use Rattle.course.specs.Course.{Rules, State, Call, Answer, answered, refusal_of, unless_refused}
+use Rattle.course.specs.Terms.{Terms}
+use Rattle.course.specs.Course.{Rules, State, Call, Answer, answered, course, refusal_of, unless_refused}
 use Rattle.course.specs.Course.Answer.{refused, taken, finding, upheld}
 use Rattle.calls.specs.declared.states.Audit.{Audit}
 use Rattle.calls.specs.declared.states.HandCount.{HandCount}
@@ -53,6 +53,11 @@ abbrev pub UpheldAlone : Result Closing Refusal → Type 0
 UpheldAlone (Ok c) = OnlyFirst c.contests false c.upheld
 UpheldAlone (Err e) = Unit {0}
 
+-- A call with so many records lent to it.
+pub record LentCall : Type 0 where
+  pub lent : ℕ
+  pub call : Call
+
 module _ {A S : Type 0} where
   -- Where an audit stands in its course, by the accounts of the records that are lent to it.
   abbrev pub audit_state : Audit → List (Account A S) → State A S
@@ -62,12 +67,24 @@ module _ {A S : Type 0} where
   count_state h xs = record { accounts = take h.terms.needed xs; drawn = h.drawn; counted = h.counted }
 
   -- The first refusal of a call with so many records lent: too few come first.
-  abbrev pub first_refusal : course.Terms → ℕ → State A S → Call → Option Refusal
+  abbrev pub first_refusal : Terms → ℕ → State A S → Call → Option Refusal
   first_refusal t lent σ c = cond (nat_lt lent (sum t.assertions)) (Some NoRoom) (refusal_of t σ c)
 
   -- What the call leaves and answers.
-  abbrev pub called : Rules A S → course.Terms → ℕ → State A S → Call → State A S × Answer
+  abbrev pub called : Rules A S → Terms → ℕ → State A S → Call → State A S × Answer
   called R t lent σ c = unless_refused (first_refusal t lent σ c) σ (answered R t σ c)
+
+  -- What the calls leave and answer, one by one.
+  abbrev pub all_called : Rules A S → Terms → State A S → List LentCall → List (State A S × Answer)
+  all_called R t σ [] = []
+  all_called R t σ (x ∷ xs) = called R t x.lent σ x.call ∷ all_called R t (called R t x.lent σ x.call).0 xs
+
+  -- Whatever the calls are and show, where a record for each assertion is lent to each of them: what they leave and
+  -- answer, one by one, is what the course has.
+  abbrev pub FollowsCourse : Rules A S → Terms → State A S → Type 0
+  FollowsCourse R t σ =
+      (xs : List LentCall) → AllByRecursion (λ x. sum t.assertions ≤ x.lent) xs →
+      all_called R t σ xs ≡ course R t σ (map (λ x. x.call) xs)
 
 -- A refusal leaves all as it was.
 abbrev pub KeptOnRefusal : {X Y : Type 0} → Result Y Refusal → X → X → Type 0

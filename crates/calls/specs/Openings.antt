@@ -24,7 +24,7 @@ use Rattle.opening.specs.Starts.{started}
 use Rattle.calls.specs.declared.opened.NotOpened.{NotOpened}
 use Rattle.calls.specs.declared.states.Audit.{Audit}
 use Rattle.calls.specs.declared.terms.Size.{Size}
-use Rattle.calls.specs.Calls.{audit_state}
+use Rattle.calls.specs.Calls.{FollowsCourse, audit_state}
 use Rattle.calls.specs.Shapes.{terms_of}
 
 abbrev pub size_of : Contest → Size
@@ -69,10 +69,12 @@ module _ {A S : Type 0} (R : Rules A S) where
   abbrev pub AlwaysPromised : Audit → Type 0
   AlwaysPromised audit = (accounts : List (Account A S)) → Promised R (terms_of audit.terms) (audit_state audit accounts)
 
-  -- An audit of the setup with these accounts, which have seen no card, and the promise.
+  -- An audit of the setup with these accounts, which have seen no card. Whatever calls are then made of it, each answers
+  -- or refuses, and leaves every account and both counts, as the course has it; and the promise.
   pub record Begun (s : Setup) (xs : List Contest) (accounts : List (Account A S)) (audit : Audit) : Type 0 where
     pub of_setup : OfSetup s xs audit
     pub fresh : Opened (audit_state audit accounts)
+    pub follows : FollowsCourse R (terms_of audit.terms) (audit_state audit accounts)
     pub promise : Promised R (terms_of audit.terms) (audit_state audit accounts)
 
   abbrev pub BegunIfOpened : Setup → List Contest → List (Account A S) → Result Audit NotOpened → Type 0

@@ -1,10 +1,9 @@
 -- A list of calls, one call at a time.
-use Rattle.std.proofs.Common.{◌≡◌, ℕ, ◌+◌, ◌<◌, ◌≤◌, List, [], ◌∷◌, ◌++◌, map, length, get_or, take, drop, set, Some, sum, Result, sym, ap, ◌∙◌}
+use Rattle.std.proofs.Common.{◌≡◌, ℕ, ◌+◌, ◌<◌, ◌≤◌, List, [], ◌∷◌, ◌++◌, map, length, get_or, take, drop, set, sum, Result, sym, ap, ◌∙◌, subst}
 use Rattle.std.proofs.lemmas.List.{append_assoc, drop_more, map-append, take_more_set}
 use Rattle.refusal.specs.declared.Refusal.{Refusal}
-use Rattle.refusal.specs.declared.Refusal.TheVariants.{NoRoom}
 use Rattle.course.specs.Terms.{Terms}
-use Rattle.course.specs.Course.{Rules, State, Call, answered, refusal_of, step, unless_refused}
+use Rattle.course.specs.Course.{Rules, State, Call, step}
 use Rattle.course.specs.Course as course
 use Rattle.course.specs.Laws.{left_by}
 use Rattle.calls.specs.declared.terms.Terms as calls
@@ -13,7 +12,7 @@ use Rattle.calls.specs.Answers.{answer_or}
 use Rattle.calls.specs.Calls.{called}
 use Rattle.conduct.specs.Conducts.{answers_by}
 use Rattle.calls.specs.Shapes.{terms_of}
-use Rattle.calls.proofs.Refusals.{enough}
+use Rattle.calls.proofs.Refusals.{called_step}
 
 module _ {A S : Type 0} (R : Rules A S) (t : Terms) (σ₀ : State A S) (cs : List Call) where
   -- after i calls the audit is at σ, and out has their answers
@@ -45,7 +44,5 @@ pub as_step :
     {A S : Type 0} (R : Rules A S) (t t₀ : calls.Terms) (n lent : ℕ) (σ : State A S) (c : Call) (x : State A S × course.Answer) →
     t ≡ t₀ → n ≡ sum (terms_of t₀).assertions → n ≤ lent → x ≡ called R (terms_of t) lent σ c → x ≡ step R (terms_of t₀) σ c
 as_step R t t₀ n lent σ c x same total h e =
-    let u = terms_of t₀ in
     e ∙ ap (λ s. called R (terms_of s) lent σ c) same
-    ∙ ap (λ o. unless_refused o σ (answered R u σ c))
-    (enough n (sum u.assertions) lent (Some NoRoom) (refusal_of u σ c) total h)
+    ∙ called_step R (terms_of t₀) lent σ c (subst (λ k. k ≤ lent) total h)
