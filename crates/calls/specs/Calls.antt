@@ -12,6 +12,8 @@ use Rattle.verdict.specs.Contests.{contest_risks, contests_upheld}
 use Rattle.course.specs.Terms.{Terms}
 use Rattle.course.specs.Course.{Rules, State, Call, Answer, answered, course, refusal_of, unless_refused}
 use Rattle.course.specs.Course.Answer.{refused, taken, finding, upheld}
+use Rattle.course.specs.Bounds.{Opened}
+use Rattle.course.specs.Laws.{left_by, taken_entries}
 use Rattle.calls.specs.declared.states.Audit.{Audit}
 use Rattle.calls.specs.declared.states.HandCount.{HandCount}
 use Rattle.calls.specs.Shapes.{OnlyFirst}
@@ -43,6 +45,12 @@ DrawsWithin most (Err e) = Unit {0}
 abbrev pub ConfirmsByRisk : ℕ → Result Verdict Refusal → Type 0
 ConfirmsByRisk limit (Ok v) = JustWhen (v.finding ≡ Confirm) (AllByRecursion (λ r. r ≤ limit) (contest_risks v))
 ConfirmsByRisk limit (Err e) = Unit {0}
+
+-- Where calls on an audit just opened leave this state, a verdict's draw count is the number of entries that were taken.
+abbrev pub CountsEntries : {A S : Type 0} → Rules A S → Terms → State A S → Result Verdict Refusal → Type 0
+CountsEntries R t τ (Ok v) =
+    (σ : State _ _) → Opened σ → (cs : List Call) → left_by R t σ cs ≡ τ → v.draws ≡ taken_entries R t σ cs
+CountsEntries R t τ (Err e) = Unit {0}
 
 -- Past the contests a verdict holds zeros and a closing upholds nothing.
 abbrev pub RisksAlone : Result Verdict Refusal → Type 0

@@ -4,7 +4,7 @@ ghost use Rattle.betting.specs.Accounts.{account};
 ghost use Rattle.course.specs.Course.{no_draws_left, rules_of};
 ghost use Rattle.course.specs.Course.Call.{entry, verdict};
 ghost use Rattle.verdict.specs.declared.Finding.TheVariants.{Confirm, Continue, FullHandCount};
-ghost use Rattle.calls.specs.Calls.{audit_state, called, ConfirmsByRisk, DrawsWithin, finding_or, first_refusal, KeptOnRefusal, refusal_in, RisksAlone, taken_or};
+ghost use Rattle.calls.specs.Calls.{audit_state, called, ConfirmsByRisk, CountsEntries, DrawsWithin, finding_or, first_refusal, KeptOnRefusal, refusal_in, RisksAlone, taken_or};
 ghost use Rattle.calls.specs.Shapes.{shown_of, terms_of};
 
 use crate::answers::Shown;
@@ -74,6 +74,7 @@ impl Audit {
         ensures confirms { ConfirmsByRisk self.now.terms.risk_limit result }
         ensures rest { RisksAlone result }
         ensures bounded { DrawsWithin self.now.terms.draw_limit result }
+        ensures draws { CountsEntries (rules_of A.Assorter P.Policy) (terms_of self.now.terms) (audit_state self.now (map (account P.state) records.now)) result }
     {
         let terms = &self.terms;
         let own = terms.own(records)?;
