@@ -30,10 +30,8 @@ use Rattle.assertion.specs.Values.{half_of, top_of}
 use Rattle.assertion.proofs.Totals.{count_all}
 use Rattle.assorter.proofs.Lists.{all_from_map, all_joined}
 use Rattle.betting.specs.Accounts.{Account, opened}
-use Rattle.betting.specs.Policies.{Chosen, shrinking}
+use Rattle.betting.specs.Policies.{Chosen}
 use Rattle.betting.specs.Shrinks.{begins_in_range, fresh}
-use Rattle.course.specs.Example.{half_at}
-use Rattle.course.specs.Openings.{top_at}
 use Rattle.opening.specs.Starts.{after_start, shrinking_or, start_answer, started_plan}
 use Rattle.calls.specs.Openings.{AsPlanned, PlansIfStarted, by_claim, plan_account}
 
@@ -90,14 +88,6 @@ spread_of : (a : Assertion) → (1 ≤ half_of a) × (half_of a < top_of a) × (
 spread_of (Pair a) = (omega arith, omega arith, omega arith)
 spread_of (Share a) = a.share
 
-same_half : (a : Assertion) → half_of a ≡ half_at (claim_of a)
-same_half (Pair a) = refl
-same_half (Share a) = refl
-
-same_top : (a : Assertion) → top_of a ≡ top_at (claim_of a)
-same_top (Pair a) = refl
-same_top (Share a) = refl
-
 start_as_planned :
     (choice : PolicyChoice) → PolicyFits choice → (x : Planned) → x.first_bet ≤ 1000 →
     by_claim (started_plan choice x) ≡ plan_account choice (meant x)
@@ -105,10 +95,8 @@ start_as_planned Fixed fits x low = refl
 start_as_planned (Shrinking w) fits x low =
     let a = x.assertion in
     let bet = x.first_bet in
-    let at : ℕ → ℕ → Account _ Chosen = λ h t. opened (claim_of a) (shrinking (fresh bet w h t)) in
     ap (λ b. opened (claim_of a) (shrinking_or bet (cond b (Some (fresh bet w (half_of a) (top_of a))) None)))
     (begins bet w (half_of a) (top_of a) low fits (spread_of a))
-    ∙ ap (λ h. at h (top_of a)) (same_half a) ∙ ap (at (half_at (claim_of a))) (same_top a)
 
 -- ---- there is memory for all assertions
 

@@ -11,14 +11,14 @@ use Rattle.setup.specs.declared.setup.Setup.{Setup}
 use Rattle.acceptance.specs.Held.{HoldsSetup}
 use Rattle.assertion.specs.declared.assertions.Assertion.{Assertion}
 use Rattle.assertion.specs.Assertions.{Claim, Plan, claim_of, planned}
+use Rattle.assertion.specs.Values.{half_at, top_at}
 use Rattle.betting.specs.Accounts.{Account, opened}
 use Rattle.betting.specs.Policies.{Chosen, always, shrinking}
 use Rattle.betting.specs.Shrinks.{fresh}
 use Rattle.course.specs.Terms as course
 use Rattle.course.specs.Course.{Rules}
 use Rattle.course.specs.Bounds.{Opened}
-use Rattle.course.specs.Example.{half_at}
-use Rattle.course.specs.Openings.{ContradictedWhenLost, HandCountDecides, LimitsWrongBoards, top_at}
+use Rattle.course.specs.Openings.{ContradictedWhenLost, HandCountDecides, LimitsWrongBoards}
 use Rattle.course.specs.Promise.{Promised}
 use Rattle.opening.specs.Starts.{started}
 use Rattle.calls.specs.declared.opened.NotOpened.{NotOpened}

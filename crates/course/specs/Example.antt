@@ -4,7 +4,8 @@ use Rattle.ballot.specs.declared.Card.{Card}
 use Rattle.ballot.specs.declared.Candidate.{Candidate}
 use Rattle.ballot.specs.declared.Contest.{Contest}
 use Rattle.ballot.specs.declared.Kind.TheVariants.{Plurality}
-use Rattle.assertion.specs.Assertions.{Claim, Plan, pair, share, planned_of}
+use Rattle.assertion.specs.Assertions.{Claim, Plan, planned_of}
+use Rattle.assertion.specs.Values.{half_at}
 use Rattle.assorter.specs.Values.{Holds, worth}
 use Rattle.chance.specs.Sequences.{sequences, Counted}
 use Rattle.betting.specs.Accounts.{opened}
@@ -12,10 +13,6 @@ use Rattle.course.specs.Terms.{Terms}
 use Rattle.course.specs.Course.{Rules, State, course}
 use Rattle.course.specs.Scripts.{Ballot, Move, calls}
 use Rattle.course.specs.Bounds.{Any, Contradicted, LowRisk}
-
-abbrev pub half_at : Claim → ℕ
-half_at (pair k most w l) = 1
-half_at (share k w p q) = p
 
 -- The claims, and a bet that stays.
 abbrev pub fixed_rules : Rules Claim ℕ

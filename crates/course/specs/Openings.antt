@@ -7,7 +7,7 @@ use Rattle.ballot.specs.declared.Contest.{Contest}
 use Rattle.ballot.specs.Contests.{assertion_count}
 use Rattle.ballot.specs.Votes.{TrulyWon}
 use Rattle.assertion.specs.declared.assertions.Assertion.{Assertion}
-use Rattle.assertion.specs.Assertions.{Claim, pair, share, claim_of, each_stands, planned}
+use Rattle.assertion.specs.Assertions.{claim_of, each_stands, planned}
 use Rattle.assertion.specs.Values.{half_of}
 use Rattle.assorter.specs.Law.{JustWhen}
 use Rattle.assorter.specs.Values.{Holds, worth}
@@ -19,11 +19,6 @@ use Rattle.course.specs.Course.Answer.{upheld}
 use Rattle.course.specs.Scripts.{Ballot, Move, Hand, calls, draws_in}
 use Rattle.course.specs.Bounds.{Any, Contradicted, Fits, WrongAnswer}
 use Rattle.course.specs.Laws.{BeforeEscalation, closing_answer}
-
--- The top of a claim's values.
-abbrev pub top_at : Claim → ℕ
-top_at (pair k most w l) = 2
-top_at (share k w p q) = q
 
 -- The rules of a setup's own assertions and policies.
 abbrev pub own_rules : Rules Assertion Chosen
