@@ -6,7 +6,8 @@ mod tests {
     use assertion::{Assertion, Share};
     use ballot::{Candidate, Card, Contest, Kind};
     use betting::{ChosenPolicy, Fixed, Record};
-    use calls::{Answer, Audit, HandCount, Shown, open};
+    use calls::{Answer, Audit, HandCount, Shown, Standing, open};
+    use format::count::commands_in;
     use refusal::{Fault, File, Refusal};
     use replay::replay;
     use setup::setup::{PolicyChoice, Setup, Terms};
@@ -316,6 +317,34 @@ mod tests {
         };
         assert_eq!(rt; replayed.fault, Some(fault));
         assert_eq!(rt; answers[1], Answer::Taken);
+        Ok(())
+    }
+
+    #[test]
+    fn a_place_for_each_command(rt: HostRuntime) -> Result<(), Fail> {
+        let mut records = blank();
+        let audit = opened(2, 2, 0, &mut records)?;
+        // An entry of place 1, found, with a mark for ADAMS, and a verdict.
+        let mut file = [0; 37];
+        file[0] = 0x11;
+        file[2] = 1;
+        file[3] = 1;
+        file[7] = 1;
+        file[36] = 0x12;
+        assert_eq!(rt; commands_in(&file), 2);
+        let mut answers = [Answer::Taken; 2];
+        let short = replay(audit, &mut records, &file, &mut answers[..1]);
+        let fault = Fault {
+            refusal: Refusal::NoRoom,
+            file: File::Draws,
+            offset: 0,
+        };
+        assert_eq!(rt; (short.answered, short.fault), (0, Some(fault)));
+        let Standing::Drawing(audit) = short.standing else {
+            return Err(Fail::new("nothing is escalated"));
+        };
+        let replayed = replay(audit, &mut records, &file, &mut answers);
+        assert_eq!(rt; (replayed.answered, replayed.fault), (2, None));
         Ok(())
     }
 }

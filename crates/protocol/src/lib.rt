@@ -6,6 +6,7 @@ mod records;
 
 use answers::print_answers;
 use calls::{Answer, open};
+use format::count::commands_in;
 use intake::memory::Memory;
 use intake::read_file;
 use records::blank_records;
@@ -33,7 +34,7 @@ fn print_draws(rt: &HostRuntime, setup: Setup, lists: &Lists<'_>, draws: &[u8]) 
             return println!(rt; "{fault}");
         }
     };
-    let mut answers = vec![in rt.alloc(); Answer::Taken; draws.len()]?;
+    let mut answers = vec![in rt.alloc(); Answer::Taken; commands_in(draws)]?;
     let replayed = replay(audit, &mut records, draws, answers.as_mut_slice());
     print_answers(rt, answers.as_slice(), replayed.answered)?;
     match replayed.fault {

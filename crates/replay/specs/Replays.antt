@@ -10,6 +10,7 @@ use Rattle.ballot.specs.declared.Card.{Card}
 use Rattle.format.specs.declared.command.Phase.{Phase}
 use Rattle.format.specs.declared.command.Phase.TheVariants as at
 use Rattle.format.specs.Format.{Cmd, batch, terms, contest, candidate, opens, entry, verdict, escalate, count, close, allowed, code, next}
+use Rattle.format.specs.Counted.{begun}
 use Rattle.setup.specs.Described.{WrittenBefore}
 use Rattle.course.specs.Terms.{Terms}
 use Rattle.course.specs.Course as course
@@ -125,10 +126,10 @@ module _ {A S : Type 0} (R : Rules A S) (t : Terms) where
     pub stands : StandsAt at standing
     pub stops : Stops file rest at after fault
 
--- There is a record for each assertion, and a place for an answer to each byte of the file.
+-- There is a record for each assertion, and a place for an answer to each command that begins in the file.
 pub record HasRoom (t : Terms) (records : ℕ) (file : List ℕ) (places : ℕ) : Type 0 where
   pub for_records : sum t.assertions ≤ records
-  pub for_answers : length file ≤ places
+  pub for_answers : begun file ≤ places
 
 -- Without room nothing is read and nothing changes.
 pub record Unread {X Y : Type 0}

@@ -6,6 +6,7 @@ ghost use Rattle.calls.specs.Calls.{audit_state};
 ghost use Rattle.calls.specs.Shapes.{terms_of};
 ghost use Rattle.course.specs.Course.{rules_of};
 ghost use Rattle.course.specs.Promise.{Promised};
+ghost use Rattle.format.specs.Counted.{begun};
 ghost use Rattle.replay.specs.Following.{stopped_at};
 ghost use Rattle.replay.specs.Replays.{HasRoom, Replays, Unread};
 
@@ -14,6 +15,7 @@ use assorter::Assorter;
 use betting::{Policy, Record};
 use calls::{Answer, Audit, Standing};
 use format::command::Phase;
+use format::count::commands_in;
 use format::take::next_command;
 use refusal::{Fault, File, Refusal};
 
@@ -53,12 +55,12 @@ fn follow_commands<A: Assorter + Copy, P: Policy + Copy>(
     answers: &mut [Answer],
 ) -> Replayed
     requires room { audit.terms.needed ≤ length records.old }
-    requires places { length file.now ≤ length answers.old }
+    requires places { begun file.now ≤ length answers.old }
     ensures replays { Replays (rules_of A.Assorter P.Policy) (terms_of audit.terms) (audit_state audit (map (account P.state) records.old)) file.now (map answer_of (take result.answered answers.new)) result.fault result.standing (standing_state result.standing (map (account P.state) records.new)) }
     ensures terms { standing_terms result.standing ≡ audit.terms }
     ensures records { drop audit.terms.needed records.new ≡ drop audit.terms.needed records.old }
     ensures answers { drop result.answered answers.new ≡ drop result.answered answers.old }
-    ensures within { result.answered ≤ length file.now }
+    ensures within { result.answered ≤ begun file.now }
 {
     let mut standing = Standing::Drawing(audit);
     let mut phase = Phase::Drawing;
@@ -74,7 +76,6 @@ fn follow_commands<A: Assorter + Copy, P: Policy + Copy>(
         standing = stands;
         match answer {
             Ok(answer) => {
-                // By a count: how many commands a file has is known only when it is read.
                 answers[answered] = answer;
                 answered += 1;
                 phase = next;
@@ -94,7 +95,8 @@ fn follow_commands<A: Assorter + Copy, P: Policy + Copy>(
 /// Before the escalation come entries and verdicts, after it counts and the close, and nothing
 /// after an accepted close; the file may end after any command. What was accepted before a refusal
 /// stays, and the refused command changes nothing. Fewer records than assertions, or fewer places
-/// for answers than bytes in the file, are refused at offset 0 before anything is read.
+/// for answers than commands begin in the file (`commands_in`), are refused at offset 0 before
+/// anything is read.
 pub fn replay<A: Assorter + Copy, P: Policy + Copy>(
     audit: Audit,
     records: &mut [Record<A, P>],
@@ -105,10 +107,10 @@ pub fn replay<A: Assorter + Copy, P: Policy + Copy>(
     ensures unread { (HasRoom (terms_of audit.terms) (length records.old) file.now (length answers.old) → ⊥) → Unread audit result.answered result.fault result.standing records.old records.new answers.old answers.new }
     ensures terms { standing_terms result.standing ≡ audit.terms }
     ensures beyond { (drop audit.terms.needed records.new ≡ drop audit.terms.needed records.old) × (drop result.answered answers.new ≡ drop result.answered answers.old) }
-    ensures within { result.answered ≤ length file.now }
+    ensures within { result.answered ≤ begun file.now }
     ensures promise { Promised (rules_of A.Assorter P.Policy) (terms_of audit.terms) (audit_state audit (map (account P.state) records.old)) }
 {
-    if records.len() < audit.records_needed() || answers.len() < file.len() {
+    if records.len() < audit.records_needed() || answers.len() < commands_in(file) {
         return stopped(Standing::Drawing(audit), 0, file, file, Refusal::NoRoom);
     }
     follow_commands(audit, records, file, answers)

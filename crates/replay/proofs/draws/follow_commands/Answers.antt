@@ -5,7 +5,10 @@ use Rattle.refusal.specs.declared.File.TheVariants.{Draws}
 use Rattle.refusal.specs.declared.Refusal.{Refusal}
 use Rattle.betting.specs.Accounts.{account}
 use Rattle.format.specs.declared.command.Phase.{Phase}
+use Rattle.format.specs.Counted.{begun}
 use Rattle.format.specs.Format.{meant}
+use Rattle.format.proofs.Counting.{counts_each}
+use Rattle.format.proofs.Writing.{taken_as_written}
 use Rattle.course.specs.Course as course
 use Rattle.course.specs.Course.{rules_of}
 use Rattle.course.specs.Course.Answer.{refused}
@@ -49,8 +52,8 @@ commands-preserved g c =
     let asked : Asked R (terms_of t) σ (call_of m) (τ, answer_of a) =
     subst (λ (r : Result Answer Refusal). Asked R (terms_of t) σ (call_of m) (τ, answer_or r)) c.in-Ok-answer.is
     (subst (λ (x : Terms). Asked R (terms_of x) σ (call_of m) (τ, answer_or c.follow-stands.result.1)) i.terms c.follow-stands.ensures.course) in
-    let some : 1 ≤ length rest = grind (arith, common_steps) in
-    let place : k < length xs = omega (arith, some, i.within, i.places, c.requires.places) in
+    let one : begun rest ≡ 1 + begun after = counts_each rest m after (taken_as_written ph m rest after reads).0 in
+    let place : k < length xs = omega (arith, one, i.within, i.places, c.requires.places) in
     let same_terms : standing_terms u ≡ t = search rules in
     let more = followed_more R (terms_of t) start σ τ c.args.file.now rest after ph
     (map answer_of (take k xs)) m (answer_of a) i.followed reads (accepted (Ok a)) asked in
@@ -73,7 +76,8 @@ commands-preserved g c =
       room =
           room_kept f t.needed s u rs qs (ap (λ (x : Terms). x.needed) i.terms) (ap (λ (x : Terms). x.needed) same_terms) i.room R (terms_of t)
           (call_of m) (answer_of a) asked;
-      within = omega (arith, i.within, c.in-Ok.ensures.shorter);
+      within = omega (arith, one, i.within);
+      shorter = omega (arith, i.shorter, c.in-Ok.ensures.shorter);
       places = length-set xs k a ∙ i.places;
     }
 
@@ -100,7 +104,7 @@ returns-in-Err-answer-clause-replays g c =
     (subst (λ (x : Terms). Asked R (terms_of x) σ (call_of m) (τ, answer_or c.follow-stands.result.1)) i.terms c.follow-stands.ensures.course) in
     let some : 1 ≤ length rest = grind (arith, common_steps) in
     let stops = stops_refused R t σ τ file rest c.in-Ok.taken.1.now c.commands.phase m e (sym c.in-Ok.ensures.value) asked
-    some (omega (arith, i.within)) in
+    some i.shorter in
     let there : Replays R t (audit_state c.args.audit (map f c.args.records.now)) file (map answer_of (take c.commands.answered c.commands.answers))
     (Some (record { refusal = e; file = Draws; offset = length file - length rest })) s σ =
     record { rest = rest; at = c.commands.phase; followed = i.followed; stands = i.stands; stops = stops } in
