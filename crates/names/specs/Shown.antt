@@ -1,7 +1,26 @@
--- Kinds and numbers of things as members read them.
-use Rattle.std.specs.Prelude.{ℕ, List, ◌++◌, codes, decimal, ◌==◌, if◌then◌else◌}
+-- Names, kinds and numbers of things as members read them.
+use Rattle.std.specs.Prelude.{◌≡◌, ◌≢◌, ℕ, ◌<◌, ◌-◌, ◌&&◌, List, [], ◌∷◌, ◌++◌, map, length, replicate, slice_index, codes, decimal, ◌==◌, nat_le, if◌then◌else◌}
+use Rattle.std.specs.List.{list_all}
 use Rattle.ballot.specs.declared.Kind.{Kind}
 use Rattle.ballot.specs.declared.Kind.TheVariants.{Plurality, Approval, Supermajority}
+
+-- A printable sign of ASCII as itself, any other byte as `?`.
+abbrev pub sign_of : ℕ → ℕ
+sign_of b = if nat_le 32 b && nat_le b 126 then b else 63
+
+-- The bytes before the blanks at the end.
+abbrev pub without_blanks : List ℕ → List ℕ
+without_blanks [] = []
+without_blanks (b ∷ bs) = if list_all (λ x. x == 32) (b ∷ bs) then [] else (b ∷ without_blanks bs)
+
+-- Blanks alone are cut off, and what is left does not end with one.
+pub record CutsBlanks (bs left : List ℕ) : Type 0 where
+  pub blanks : bs ≡ left ++ replicate (length bs - length left) 32
+  pub no_blank_last : 0 < length left → slice_index left (length left - 1) ≢ 32
+
+-- As "ADAMS".
+abbrev pub name_line : List ℕ → List ℕ
+name_line bs = map sign_of (without_blanks bs)
 
 -- As "supermajority of 2/3".
 abbrev pub kind_line : Kind → List ℕ

@@ -1,31 +1,50 @@
 //! Names and kinds as members read them.
 #![tactic(auto)]
 
-ghost use Rattle.std.specs.Prelude.{Some};
-ghost use Rattle.names.specs.Shown.{kind_line, many_line};
+ghost use Rattle.std.specs.Prelude.{◌≡◌, Some};
+ghost use Rattle.names.specs.Shown.{CutsBlanks, kind_line, many_line, name_line, sign_of, without_blanks};
 
 use ballot::Kind;
 use std::fmt;
+
+/// What fills a name up to its eight bytes.
+const BLANK: u8 = b' ';
 
 /// The eight bytes of a name without the blanks at its end; what is no printable sign shows as `?`.
 #[derive(Clone, Copy)]
 pub struct Name(pub [u8; 8]);
 
-/// How many of the bytes come before the blanks at the end.
-fn length(bytes: &[u8; 8]) -> usize {
-    bytes.iter().rposition(|&b| b != b' ').map_or(0, |i| i + 1)
+/// The bytes before the blanks at the end.
+fn without_blanks(bytes: &[u8]) -> &[u8]
+    ensures is { result.now ≡ without_blanks bytes.now }
+    ensures means { CutsBlanks bytes.now result.now }
+{
+    let mut left = bytes;
+    while let [front @ .., last] = left
+        && *last == BLANK
+    {
+        left = front;
+    }
+    left
+}
+
+/// The sign that a byte shows as.
+fn sign_of(b: u8) -> char
+    ensures { result ≡ sign_of b }
+{
+    if (b' '..=b'~').contains(&b) {
+        char::from(b)
+    } else {
+        '?'
+    }
 }
 
 impl fmt::Display for Name {
+    ghost output = { λ x. Some (name_line x.0) };
+
     fn fmt<W: fmt::Write>(&self, f: &mut fmt::Formatter<W>) -> fmt::Result {
-        let bytes = self.0;
-        let n = length(&bytes);
-        for b in bytes.iter().take(n) {
-            let sign = if (b' '..=b'~').contains(b) {
-                char::from(*b)
-            } else {
-                '?'
-            };
+        for b in without_blanks(&self.0) {
+            let sign = sign_of(*b);
             write!(f, "{sign}")?;
         }
         Ok(())
