@@ -2,18 +2,23 @@
 #![tactic(auto)]
 
 #[cfg(test)]
+mod own;
+
+#[cfg(test)]
 mod tests {
+    use crate::own::{Turnout, Wary};
     use assertion::{Assertion, Share};
     use ballot::{Candidate, Card, Contest, Kind};
     use betting::{ChosenPolicy, Fixed, Record};
-    use calls::{Answer, Audit, HandCount, Shown, Standing, open};
+    use calls::{Answer, Audit, CountCall, DrawCall, HandCount, Shown, Standing, open, open_with};
+    use conduct::conduct;
     use format::count::commands_in;
     use refusal::{Fault, File, Refusal};
     use replay::replay;
     use setup::setup::{PolicyChoice, Setup, Terms};
     use std::process::Abort;
     use std::test::Fail;
-    use verdict::{Finding, Verdict};
+    use verdict::{Closing, Finding, Verdict};
 
     type Records = [Record<Assertion, ChosenPolicy>; 2];
 
@@ -345,6 +350,82 @@ mod tests {
         };
         let replayed = replay(audit, &mut records, &file, &mut answers);
         assert_eq!(rt; (replayed.answered, replayed.fault), (2, None));
+        Ok(())
+    }
+
+    #[test]
+    fn own_assorters_and_policies(rt: HostRuntime) -> Result<(), Fail> {
+        let mut records = [Record::start(Turnout, Wary { lost: true })];
+        let opened = open_with(
+            numbers(100),
+            &board(),
+            &slate(60, 40),
+            &[Turnout],
+            &[Wary { lost: false }],
+            &mut records,
+        );
+        let mut audit = opened.map_err(|_| Fail::new("the setup should be opened"))?;
+        let baker = Card {
+            marks: [2, 0, 0, 0, 0, 0, 0, 0],
+        };
+        for (place, card) in [(1, ADAMS), (2, baker), (3, NOBODY), (4, ADAMS)] {
+            assert_eq!(rt; audit.enter(&mut records, &shown(place, 1, card)), Ok(()));
+        }
+        let [held] = &records;
+        assert_eq!(rt; (held.wealth, held.peak), (1_125_000_000, 2_250_000_000));
+        let verdict = audit
+            .verdict(&records)
+            .map_err(|_| Fail::new("a verdict is due"))?;
+        assert_eq!(rt; (verdict.draws, verdict.risks[0]), (4, 445));
+        Ok(())
+    }
+
+    #[test]
+    fn conducted(rt: HostRuntime) -> Result<(), Fail> {
+        let mut records = blank();
+        let audit = opened(3, 3, 0, &mut records)?;
+        let before = [
+            DrawCall::Entry(shown(1, 1, ADAMS)),
+            DrawCall::Entry(shown(4, 1, ADAMS)),
+            DrawCall::Verdict,
+        ];
+        let later = [
+            CountCall::Count(shown(1, 1, ADAMS)),
+            CountCall::Count(shown(3, 1, ADAMS)),
+            CountCall::Count(shown(2, 1, ADAMS)),
+            CountCall::Close,
+            CountCall::Count(shown(3, 0, NOBODY)),
+            CountCall::Close,
+        ];
+        let mut answers = [Err(Refusal::NoSetup); 11];
+        let stands = conduct(audit, &mut records, &before, Some(&later), &mut answers);
+        assert!(rt; matches!(stands, Ok(Standing::Counting(_))));
+        let verdict = Verdict {
+            finding: Finding::Continue,
+            draws: 1,
+            contests: 1,
+            risks: [513, 0, 0, 0, 0, 0, 0, 0],
+        };
+        let closing = Closing {
+            contests: 1,
+            upheld: [true, false, false, false, false, false, false, false],
+        };
+        assert_eq!(rt;
+            answers,
+            [
+                Ok(Answer::Taken),
+                Err(Refusal::BadPlace),
+                Ok(Answer::Finding(verdict)),
+                Ok(Answer::Taken),
+                Ok(Answer::Taken),
+                Err(Refusal::NotTheNextPlace),
+                Ok(Answer::Taken),
+                Err(Refusal::CountUnfinished),
+                Ok(Answer::Taken),
+                Ok(Answer::Upheld(closing)),
+                Err(Refusal::NoSetup),
+            ]
+        );
         Ok(())
     }
 }
