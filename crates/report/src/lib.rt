@@ -15,7 +15,7 @@ use verdict::{Closing, Finding, Verdict};
 type Line = ArrayString<23>;
 
 /// The lines of a verdict or a close.
-type Text = ArrayString<256>;
+pub type Text = ArrayString<256>;
 
 // Lines are pushed: where a `write!` fails it promises nothing, and no exact answer would follow.
 
@@ -82,8 +82,9 @@ fn each_line<T: Copy, F: Fn(u8, T) -> Line>(items: &[T], line: F) -> Text
     text
 }
 
+/// The lines of a verdict. Contests above 8 count as 8.
 #[tactic(auto, using(crate::proofs::Counts::verdict_count))]
-fn verdict_text(verdict: &Verdict) -> Text
+pub fn verdict_text(verdict: &Verdict) -> Text
     ensures text { result.bytes ≡ verdict_lines verdict.now }
     ensures lines { line_count (verdict_lines verdict.now) ≡ min verdict.now.contests 8 + 2 }
 {
@@ -93,8 +94,9 @@ fn verdict_text(verdict: &Verdict) -> Text
     text
 }
 
+/// The lines of a closed hand count. Contests above 8 count as 8.
 #[tactic(auto, using(crate::proofs::Counts::closing_count))]
-fn closing_text(closing: &Closing) -> Text
+pub fn closing_text(closing: &Closing) -> Text
     ensures text { result.bytes ≡ closing_lines closing.now }
     ensures lines { line_count (closing_lines closing.now) ≡ min closing.now.contests 8 }
 {
