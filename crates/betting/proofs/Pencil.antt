@@ -18,6 +18,18 @@ payoff_le stake half value = div-le_self (stake * value) half
 pub stake_le : (wealth bet : ℕ) → bet ≤ 1000 → stake_of wealth bet ≤ wealth
 stake_le wealth bet h = omega (arith, mul-le-mul_left wealth h)
 
+-- from a wealth that a record can have, by a bet that a policy can make
+pub stake_low : (wealth bet : ℕ) → wealth ≤ 100000000000000 → bet ≤ 1000 → wealth * bet ≤ 100000000000000000
+stake_low wealth bet low h = omega (arith, mul-le-mul_left wealth h)
+
+pub payoff_low :
+    (wealth bet value : ℕ) → wealth ≤ 100000000000000 → bet ≤ 1000 → value < 2 ^ 16 →
+    stake_of wealth bet * value ≤ 6553600000000000000
+payoff_low wealth bet value low h v =
+    let s = stake_of wealth bet in
+    let le : value ≤ 65536 = omega arith in
+    omega (arith, stake_le wealth bet h, mul-le-mul_left s le)
+
 pub growth : (wealth bet half value : ℕ) → ModestGrowth wealth bet value (wealth_after wealth bet half value)
 growth wealth bet half value hb hv =
     let s = stake_of wealth bet in

@@ -4,13 +4,13 @@ ghost use Rattle.betting.specs.Sums.{risk_of, settled};
 
 use super::policy::Policy;
 use super::records::Record;
-use super::sums::{is_settled, peak_after, risk, wealth_after};
+use super::sums::{GOAL, held_wealth_after, peak_after, risk};
 
 /// The wealth of a record that has seen no card.
 const START: u64 = 1_000_000_000;
 
 /// No record's wealth or peak is higher.
-const MOST: u128 = 100_000_000_000_000;
+const MOST: u64 = 100_000_000_000_000;
 
 /// The tally stops here.
 const LAST_TALLY: u32 = 65_535_000;
@@ -34,7 +34,8 @@ impl<A, P: Policy> Record<A, P> {
         ensures is { result ≡ settled self.now.peak risk_limit }
         ensures pencil { Decides result (risk_of self.now.peak ≤ risk_limit) }
     {
-        is_settled(self.peak, risk_limit)
+        // In 64 bits, which hold a record's peak times any limit.
+        self.peak * risk_limit as u64 >= GOAL
     }
 
     /// The assertion's measured risk in thousandths, by the highest wealth so far.
@@ -73,8 +74,8 @@ pub fn play<A: Copy, P: Policy + Copy>(
     let mut policy = held.policy;
     let tally = held.tally;
     let bet = policy.bet();
-    let grown = wealth_after(held.wealth, bet, half, value);
-    let wealth = grown.min(MOST) as u64;
+    let grown = held_wealth_after(held.wealth, bet, half, value);
+    let wealth = grown.min(MOST);
     let peak = peak_after(held.peak, wealth);
     policy.tell(value);
     *held = Record {

@@ -4,7 +4,7 @@ ghost use Rattle.std.specs.Prelude.{◌≡◌, ◌*◌, ◌^◌, ◌<◌, ◌≤
 ghost use Rattle.betting.specs.Sums.{ModestGrowth, payoff_of, PayoffByPencil, risk_of, RiskByPencil, settled, stake_of, StakeByPencil, wealth_after};
 
 /// A wealth that grew to a thousand times its start has the risk of 1 in 1,000.
-const GOAL: u64 = 1_000_000_000_000;
+pub(super) const GOAL: u64 = 1_000_000_000_000;
 
 /// What a bet, in thousandths of the wealth, puts at stake.
 pub fn stake(wealth: u64, bet: u16) -> u128
@@ -36,6 +36,22 @@ fn wide_payoff(stake: u128, half: u16, value: u16) -> u128
         return 0;
     }
     stake * value as u128 / half as u128
+}
+
+/// The same from a wealth that a record can have, by a bet that a policy can make.
+// In 64 bits, which hold these sums: a division of 128 bits takes several times as long.
+#[tactic(auto, using(crate::proofs::Pencil::stake_low, crate::proofs::Pencil::payoff_low))]
+pub(super) fn held_wealth_after(wealth: u64, bet: u16, half: u16, value: u16) -> u64
+    requires held { wealth ≤ 100000000000000 }
+    requires modest { bet ≤ 1000 }
+    ensures { result ≡ wealth_after wealth bet half value }
+{
+    let at_stake = wealth * bet as u64 / 1000;
+    let kept = wealth.saturating_sub(at_stake);
+    if half == 0 {
+        return kept;
+    }
+    kept + at_stake * value as u64 / half as u64
 }
 
 /// The wealth after a bet on a card of this value.

@@ -25,6 +25,24 @@ fn shown_value<A: Assorter>(assorter: &A, card: Option<&Card>) -> u16
     card.map_or(0, |card| assorter.value(card))
 }
 
+/// A record that isn't settled takes the card that is drawn.
+fn enter_one<A: Assorter + Copy, P: Policy + Copy>(
+    held: &mut Record<A, P>,
+    limit: u16,
+    card: Option<&Card>,
+)
+    ensures moves { account P.state held.new ≡ entered (rules_of A.Assorter P.Policy) limit (as_found (option_copied card.entry)) (account P.state held.old) }
+    ensures rules { 10 ≤ limit → account P.state held.new ≡ after_entry (rules_of A.Assorter P.Policy) limit (as_found (option_copied card.entry)) (account P.state held.old) }
+{
+    // As `play` does, and before it, so that nobody asks what a card is worth to a settled record.
+    if held.is_settled(limit) {
+        return;
+    }
+    let value = shown_value(&held.assorter, card);
+    let half = held.assorter.half();
+    play(held, half, value, limit);
+}
+
 /// Each record takes the card that is drawn. At a risk limit below 10, which no audit has, wealth
 /// and peak are cut where a record's end.
 pub fn enter_each<A: Assorter + Copy, P: Policy + Copy>(
@@ -36,9 +54,7 @@ pub fn enter_each<A: Assorter + Copy, P: Policy + Copy>(
     ensures rules { 10 ≤ limit → map (account P.state) records.new ≡ map (after_entry (rules_of A.Assorter P.Policy) limit (as_found (option_copied card.entry))) (map (account P.state) records.old) }
 {
     for held in records {
-        let value = shown_value(&held.assorter, card);
-        let half = held.assorter.half();
-        play(held, half, value, limit);
+        enter_one(held, limit, card);
     }
 }
 
