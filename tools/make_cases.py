@@ -1,10 +1,14 @@
-"""Writes setup files and the answer that each must get.
+"""Writes setup files and the answer that each must get, and pairs of files with their audits.
 
     python3 make_cases.py FOLDER
 
-FOLDER gets NAME.bin for each case and cases.txt: a line for each, NAME, a tab, and `accepted` or
-`refused N file 1 at OFFSET`. Each answer below is written by hand; a plain reader of the rules
-reckons it again, and both must agree.
+FOLDER is that of the program setup_cases. Its data gets NAME.bin for each case and cases.txt: a line
+for each, NAME, a tab, and `accepted`, `refused N file 1 at OFFSET` or `file too long`. Each answer
+below is written by hand; a plain reader of the rules reckons it again, and both must agree.
+
+data gets draws files too, and audits.txt: a line for each pair of files, the setup's NAME, a tab, and
+that of the draws. What the audit of each prints is written by hand. stdout is all that the program
+must print.
 """
 
 import os
@@ -40,6 +44,19 @@ def candidates(*votes):
 def race(*votes, kind=1, seats=1, p=0, q=0):
     """A contest with all its candidates."""
     return contest(kind, len(votes), seats, p, q) + candidates(*votes)
+
+
+def card(command, place, found=1, marks=1):
+    """A card that is shown, with marks in the first contest alone."""
+    return bytes([command]) + two(place) + bytes([found]) + marks.to_bytes(4, "big") + bytes(28)
+
+
+def entry(place, found=1, marks=1):
+    return card(0x11, place, found, marks)
+
+
+def count(place, found=1, marks=1):
+    return card(0x14, place, found, marks)
 
 
 def share(p, q, *votes):
@@ -151,7 +168,12 @@ def winners_exist(kind, seats, p, q, votes):
     return ranked[seats - 1] > ranked[seats]
 
 
+LIMIT = 65536
+
+
 def answer(file):
+    if len(file) > LIMIT:
+        return "file too long"
     try:
         Reader(file).read()
         return "accepted"
@@ -383,25 +405,121 @@ CASES = [
     # --- the longest setup: 200 batches, 8 contests of 32 candidates
     ("longest", batch(1) * 200 + T + clear_win(32, 1) * 8 + OPEN, OK),
     ("longest_and_a_byte", batch(1) * 200 + T + clear_win(32, 1) * 8 + OPEN + OPEN, "refused 9 file 1 at 5089"),
+    # --- no file, which is as an empty one, and one that is too long
+    ("missing", None, "refused 1 file 1 at 0"),
+    ("longer_than_65536", bytes(LIMIT + 1), "file too long"),
+]
+
+# What the program prints of the example, in lists with few places.
+PLACES = [
+    ("just enough", OK),
+    ("no place for the batch", "refused 10 file 1 at 0"),
+    ("no place for the contest", "refused 10 file 1 at 19"),
+    ("no place for the second candidate", "refused 10 file 1 at 38"),
+]
+
+# ---------------------------------------------------------------- pairs of files
+
+VERDICT, ESCALATE, CLOSE = b"\x12", b"\x13", b"\x15"
+
+DRAWS = {
+    "verdict": VERDICT,
+    "verdict_then_count": VERDICT + b"\x14",
+    "count_first": b"\x14",
+    "entry_then_count": entry(1) + b"\x14",
+    "second_entry_cut": entry(1) + b"\x11",
+    "entries_18": entry(1) * 18,
+    "entry_then_verdict": entry(1) + VERDICT,
+    "entry_twice": entry(1) * 2,
+    "escalate_twice": ESCALATE + ESCALATE,
+    "close_uncounted": ESCALATE + CLOSE,
+    "count_of_place_2": ESCALATE + count(2),
+    "place_0": entry(0, found=2),
+    "verdict_then_place_101": VERDICT + entry(101, found=0),
+    "found_2": entry(1, found=2, marks=4),
+    "mark_for_nobody": entry(1, marks=4),
+    "mark_on_a_missing_card": entry(1, found=0),
+}
+
+TOO_LONG = "file too long"
+AT_THE_START = ["contest 1 risk 1000", "draws 0", "continue"]
+
+AUDITS = [
+    # --- a file that is missing, too long, or just not too long
+    ("example", "missing", []),
+    ("missing", "missing", ["refused 1 file 1 at 0"]),
+    ("missing", "verdict", ["refused 1 file 1 at 0"]),
+    ("example", "longer_than_65536", [TOO_LONG]),
+    ("longer_than_65536", "verdict", [TOO_LONG]),
+    ("longer_than_65536", "missing", [TOO_LONG]),
+    ("longer_than_65536", "longer_than_65536", [TOO_LONG]),
+    ("tie", "longer_than_65536", [TOO_LONG]),
+    ("missing", "longer_than_65536", [TOO_LONG]),
+    ("example", "trailing_up_to_65536", ["refused 2 file 2 at 0"]),
+    ("trailing_up_to_65536", "verdict", ["refused 9 file 1 at 50"]),
+    # --- as many records as there can be assertions
+    ("assertions_256_in_one", "missing", []),
+    # --- a refused setup, whatever the draws are
+    ("tie", "verdict", ["refused 8 file 1 at 38"]),
+    ("tie", "count_first", ["refused 8 file 1 at 38"]),
+    # --- answers, and then the fault
+    ("example", "verdict", AT_THE_START),
+    ("example", "verdict_then_count", AT_THE_START + ["refused 2 file 2 at 1"]),
+    ("example", "verdict_then_place_101", AT_THE_START + ["refused 11 file 2 at 1"]),
+    ("example", "count_first", ["refused 2 file 2 at 0"]),
+    ("example", "entry_then_count", ["refused 2 file 2 at 36"]),
+    ("example", "second_entry_cut", ["refused 1 file 2 at 36"]),
+    ("example", "entries_18", ["refused 14 file 2 at 612"]),
+    ("draws_1", "entry_then_verdict", ["contest 1 risk 834", "draws 1", "full hand count"]),
+    ("draws_1", "entry_twice", ["refused 14 file 2 at 36"]),
+    ("example", "escalate_twice", ["refused 2 file 2 at 1"]),
+    ("example", "close_uncounted", ["refused 16 file 2 at 1"]),
+    ("example", "count_of_place_2", ["refused 15 file 2 at 1"]),
+    ("example", "place_0", ["refused 11 file 2 at 0"]),
+    ("example", "found_2", ["refused 12 file 2 at 0"]),
+    ("example", "mark_for_nobody", ["refused 13 file 2 at 0"]),
+    ("example", "mark_on_a_missing_card", ["refused 13 file 2 at 0"]),
 ]
 
 
+# What the program says of a folder, and of a path that leads through a file.
+PATHS = [".: cannot be read\n", "example.bin/setup.bin: cannot be read\n"]
+
+
+def write(path, file):
+    with open(path, "wb") as out:
+        out.write(file)
+
+
 def main(folder):
-    os.makedirs(folder, exist_ok=True)
+    data = os.path.join(folder, "data")
+    os.makedirs(data, exist_ok=True)
     names = set()
     lines = []
     for name, file, expected in CASES:
         assert name not in names, name
         names.add(name)
-        assert len(file) <= 65536, name
-        assert answer(file) == expected, (name, answer(file), expected)
-        with open(os.path.join(folder, name + ".bin"), "wb") as out:
-            out.write(file)
-        lines.append(name + "\t" + expected + "\n")
-    with open(os.path.join(folder, "cases.txt"), "w", newline="\n") as out:
-        out.writelines(lines)
+        here = answer(file or b"")
+        assert here == expected, (name, here, expected)
+        if file is not None:
+            write(os.path.join(data, name + ".bin"), file)
+        lines.append(f"{name}\t{expected}\n")
+    pairs = []
+    audits = []
+    for name, file in DRAWS.items():
+        assert name not in names, name
+        names.add(name)
+        write(os.path.join(data, name + ".bin"), file)
+    for setup, draws, printed in AUDITS:
+        assert setup in names and draws in names, (setup, draws)
+        pairs.append(f"{setup}\t{draws}\n")
+        audits.append(f"{setup} with {draws}\n" + "".join(line + "\n" for line in printed))
+    places = [f"{name}\t{expected}\n" for name, expected in PLACES]
+    write(os.path.join(data, "cases.txt"), "".join(lines).encode())
+    write(os.path.join(data, "audits.txt"), "".join(pairs).encode())
+    write(os.path.join(folder, "stdout"), "".join(lines + places + audits + PATHS).encode())
     accepted = sum(1 for case in CASES if case[2] == OK)
-    print(f"{len(CASES)} cases, {accepted} accepted, {len(CASES) - accepted} refused")
+    print(f"{len(CASES)} cases, {accepted} accepted, {len(CASES) - accepted} not; {len(AUDITS)} audits")
 
 
 if __name__ == "__main__":

@@ -30,3 +30,19 @@ pub fn read_file(rt: &HostRuntime, path: &str) -> io::Result<Option<Vec<u8>>>
     }
     Ok(Some(bytes))
 }
+
+/// The line that is printed where a file is too long.
+pub fn tell_too_long(rt: &HostRuntime) -> io::Result<()> {
+    println!(rt; "file too long")
+}
+
+/// The same as `read_file`; of a file that is too long it prints that, too.
+pub fn read_or_tell(rt: &HostRuntime, path: &str) -> io::Result<Option<Vec<u8>>>
+    ensures { IfOk result (λ o. IfSome o (λ v. vec_len v ≤ 65536)) }
+{
+    let file = read_file(rt, path)?;
+    if file.is_none() {
+        tell_too_long(rt)?;
+    }
+    Ok(file)
+}

@@ -10,7 +10,7 @@ mod steps;
 use assertion::{Planned, list_assertions};
 use bounded::List;
 use intake::memory::Memory;
-use intake::read_file;
+use intake::read_or_tell;
 use setup::lists::Lists;
 use setup::read::read_setup;
 use setup::setup::Terms;
@@ -51,8 +51,8 @@ fn pencil(rt: &HostRuntime, file: &[u8], line: &str) -> io::Result<()> {
 fn main(rt: HostRuntime) -> io::Result<()> {
     let mut line = String::new(rt.alloc());
     rt.read_line(&mut line)?;
-    match read_file(&rt, "setup.bin")? {
+    match read_or_tell(&rt, "setup.bin")? {
         Some(file) => pencil(&rt, file.as_slice(), line.as_str()),
-        None => println!(rt; "file too long"),
+        None => Ok(()),
     }
 }

@@ -8,7 +8,7 @@ use answers::print_answers;
 use calls::{Answer, open};
 use format::count::commands_in;
 use intake::memory::Memory;
-use intake::read_file;
+use intake::{read_file, tell_too_long};
 use records::blank_records;
 use refusal::{Fault, File};
 use replay::replay;
@@ -53,13 +53,17 @@ fn print_audit(rt: &HostRuntime, setup: &[u8], draws: &[u8]) -> io::Result<()> {
     }
 }
 
-/// The same of the files in the folder that the program is run in; both are read before either is
-/// judged.
-pub fn print_audit_here(rt: &HostRuntime) -> io::Result<()> {
-    let setup = read_file(rt, "setup.bin")?;
-    let draws = read_file(rt, "draws.bin")?;
+/// The same of the files under these paths; both are read before either is judged.
+pub fn print_audit_of(rt: &HostRuntime, setup: &str, draws: &str) -> io::Result<()> {
+    let setup = read_file(rt, setup)?;
+    let draws = read_file(rt, draws)?;
     match (setup, draws) {
         (Some(setup), Some(draws)) => print_audit(rt, setup.as_slice(), draws.as_slice()),
-        _ => println!(rt; "file too long"),
+        _ => tell_too_long(rt),
     }
+}
+
+/// The same of the files in the folder that the program is run in.
+pub fn print_audit_here(rt: &HostRuntime) -> io::Result<()> {
+    print_audit_of(rt, "setup.bin", "draws.bin")
 }

@@ -1,11 +1,14 @@
 //! Judges every file that `cases.txt` names, a line for each; `tools/make_cases.py` writes them.
-//! Then the example, into lists with just enough places, and with one place too few.
+//! Then the example, into lists with just enough places, and with one place too few. Then it prints
+//! the audits of the pairs of files that `audits.txt` names, some of them missing or too long, and
+//! tries paths that cannot be read.
 #![tactic(auto)]
 
 use ballot::limits::{BATCHES, CONTESTS};
 use bounded::List;
 use intake::memory::{CANDIDATES, Memory};
-use intake::read_file;
+use intake::{read_file, read_or_tell};
+use protocol::print_audit_of;
 use setup::lists::Lists;
 use setup::read::read_setup;
 use std::{fs, io};
@@ -25,7 +28,7 @@ const ENOUGH: Places = Places {
 };
 
 /// What the file is answered, into lists of so many places.
-fn judge(rt: &HostRuntime, case: &str, file: &[u8], places: Places) -> io::Result<()> {
+fn judge(rt: &HostRuntime, file: &[u8], places: Places) -> io::Result<()> {
     let mut memory = Memory::blank();
     let mut lists = Lists {
         batches: List::over(&mut memory.batches[0..places.batches.min(BATCHES)]),
@@ -33,8 +36,8 @@ fn judge(rt: &HostRuntime, case: &str, file: &[u8], places: Places) -> io::Resul
         candidates: List::over(&mut memory.candidates[0..places.candidates.min(CANDIDATES)]),
     };
     match read_setup(file, &mut lists) {
-        Ok(_) => println!(rt; "{case}\taccepted"),
-        Err(fault) => println!(rt; "{case}\t{fault}"),
+        Ok(_) => println!(rt; "accepted"),
+        Err(fault) => println!(rt; "{fault}"),
     }
 }
 
@@ -44,9 +47,10 @@ fn judge_line(rt: &HostRuntime, line: &str) -> io::Result<()> {
         return println!(rt; "{line}: no case");
     };
     let path = format!(in rt.alloc(); "{case}.bin")?;
-    match read_file(rt, path.as_str())? {
-        Some(file) => judge(rt, case, file.as_slice(), ENOUGH),
-        None => println!(rt; "{case}\tfile too long"),
+    print!(rt; "{case}\t")?;
+    match read_or_tell(rt, path.as_str())? {
+        Some(file) => judge(rt, file.as_slice(), ENOUGH),
+        None => Ok(()),
     }
 }
 
@@ -57,19 +61,41 @@ fn judge_short(rt: &HostRuntime, file: &[u8]) -> io::Result<()> {
         contests: 1,
         candidates: 2,
     };
-    judge(rt, "just enough", file, just)?;
-    let no_batches = Places { batches: 0, ..just };
-    judge(rt, "no place for the batch", file, no_batches)?;
+    print!(rt; "just enough\t")?;
+    judge(rt, file, just)?;
+    print!(rt; "no place for the batch\t")?;
+    judge(rt, file, Places { batches: 0, ..just })?;
+    print!(rt; "no place for the contest\t")?;
     let no_contests = Places {
         contests: 0,
         ..just
     };
-    judge(rt, "no place for the contest", file, no_contests)?;
+    judge(rt, file, no_contests)?;
+    print!(rt; "no place for the second candidate\t")?;
     let one_candidate = Places {
         candidates: 1,
         ..just
     };
-    judge(rt, "no place for the second candidate", file, one_candidate)
+    judge(rt, file, one_candidate)
+}
+
+/// Whether the path is read: a folder, and a path through a file, cannot be.
+fn try_path(rt: &HostRuntime, path: &str) -> io::Result<()> {
+    match read_file(rt, path) {
+        Ok(_) => println!(rt; "{path}: read"),
+        Err(_) => println!(rt; "{path}: cannot be read"),
+    }
+}
+
+/// The audit of the setup and the draws that a line names.
+fn audit_line(rt: &HostRuntime, line: &str) -> io::Result<()> {
+    let Some((setup, draws)) = line.split_once('\t') else {
+        return println!(rt; "{line}: no pair");
+    };
+    println!(rt; "{setup} with {draws}")?;
+    let setup_path = format!(in rt.alloc(); "{setup}.bin")?;
+    let draws_path = format!(in rt.alloc(); "{draws}.bin")?;
+    print_audit_of(rt, setup_path.as_str(), draws_path.as_str())
 }
 
 fn main(rt: HostRuntime) -> io::Result<()> {
@@ -77,8 +103,13 @@ fn main(rt: HostRuntime) -> io::Result<()> {
     for line in table.lines() {
         judge_line(&rt, line)?;
     }
-    match read_file(&rt, "example.bin")? {
-        Some(file) => judge_short(&rt, file.as_slice()),
-        None => Ok(()),
+    if let Some(file) = read_or_tell(&rt, "example.bin")? {
+        judge_short(&rt, file.as_slice())?;
     }
+    let pairs = fs::read_to_string(&rt, "audits.txt")?;
+    for line in pairs.lines() {
+        audit_line(&rt, line)?;
+    }
+    try_path(&rt, ".")?;
+    try_path(&rt, "example.bin/setup.bin")
 }
