@@ -1,10 +1,11 @@
-"""Writes the example files of the program `audit`.
+"""Writes example files of the programs.
 
     python3 make_examples.py EXAMPLES
 
 EXAMPLES/one-contest gets draws.bin: 17 cards for ADAMS, then a verdict. EXAMPLES/by-hand gets
 setup.bin and draws.bin: five cards, of which the fourth is missing, three draws, then a full hand
-count that upholds the first contest and not the second.
+count that upholds the first contest and not the second. EXAMPLES/village gets setup.bin: a contest of
+each kind and one of two odd names, and a policy that shrinks; `plan` and `pencil` print of it.
 """
 
 import os
@@ -58,6 +59,29 @@ def by_hand():
     return setup, draws
 
 
+def village():
+    return (
+        batch(60, b"HALL-001")
+        + batch(39, b"POST-001")
+        + batch(1, b"LATE \x072 ")
+        + terms(50, 400, 2, 100)
+        + contest(1, 2, 1)
+        + candidate(40, b"ADAMS   ")
+        + candidate(60, b"BAKER   ")
+        + contest(2, 3, 2)
+        + candidate(55, b"CLARK   ")
+        + candidate(30, b"DAVIS   ")
+        + candidate(48, b"EVANS   ")
+        + contest(3, 2, 1, 2, 3)
+        + candidate(18, b"NO      ")
+        + candidate(72, b"YES     ")
+        + contest(1, 2, 1)
+        + candidate(1, b"        ")
+        + candidate(0, b"ZO\xcb  S. ")
+        + OPEN
+    )
+
+
 def write(folder, name, data):
     os.makedirs(folder, exist_ok=True)
     with open(os.path.join(folder, name), "wb") as out:
@@ -70,3 +94,4 @@ if __name__ == "__main__":
     setup, draws = by_hand()
     write(os.path.join(examples, "by-hand"), "setup.bin", setup)
     write(os.path.join(examples, "by-hand"), "draws.bin", draws)
+    write(os.path.join(examples, "village"), "setup.bin", village())
