@@ -1,3 +1,4 @@
+ghost use Rattle.std.specs.Prelude.{◌≡◌};
 ghost use Rattle.assertion.specs.Assertions.{claim_of, pair, share};
 ghost use Rattle.assertion.specs.Values.{half_of, top_of};
 ghost use Rattle.assorter.specs.Values.{Holds, worth};
@@ -26,15 +27,21 @@ impl Assorter for Pair {
 
     ghost exact = { λ a. exact_claim (pair a.contest a.most_marks a.winner a.loser) };
 
-    fn half(&self) -> u16 {
+    fn half(&self) -> u16
+        ensures { result ≡ 1 }
+    {
         1
     }
 
-    fn top(&self) -> u16 {
+    fn top(&self) -> u16
+        ensures { result ≡ 2 }
+    {
         2
     }
 
-    fn value(&self, card: &Card) -> u16 {
+    fn value(&self, card: &Card) -> u16
+        ensures { result ≡ worth (pair self.now.contest self.now.most_marks self.now.winner self.now.loser) card.now }
+    {
         let n = card.marks[self.contest as usize];
         let winner = gives_vote(self.most_marks, n, self.winner);
         let loser = gives_vote(self.most_marks, n, self.loser);
@@ -62,15 +69,21 @@ impl Assorter for Share {
 
     ghost exact = { λ a. exact_claim (share a.contest a.winner a.p a.q) };
 
-    fn half(&self) -> u16 {
+    fn half(&self) -> u16
+        ensures { result ≡ self.now.p }
+    {
         self.p
     }
 
-    fn top(&self) -> u16 {
+    fn top(&self) -> u16
+        ensures { result ≡ self.now.q }
+    {
         self.q
     }
 
-    fn value(&self, card: &Card) -> u16 {
+    fn value(&self, card: &Card) -> u16
+        ensures { result ≡ worth (share self.now.contest self.now.winner self.now.p self.now.q) card.now }
+    {
         let n = card.marks[self.contest as usize];
         match (has_one_mark(n), is_marked(n, self.winner)) {
             (true, true) => self.top(),
@@ -98,15 +111,21 @@ impl Assorter for Assertion {
       | Share a ↦ exact_claim (claim_of (Share a))
     ] };
 
-    fn half(&self) -> u16 {
+    fn half(&self) -> u16
+        ensures { result ≡ half_of self.now }
+    {
         Assertion::half(self)
     }
 
-    fn top(&self) -> u16 {
+    fn top(&self) -> u16
+        ensures { result ≡ top_of self.now }
+    {
         Assertion::top(self)
     }
 
-    fn value(&self, card: &Card) -> u16 {
+    fn value(&self, card: &Card) -> u16
+        ensures { result ≡ worth (claim_of self.now) card.now }
+    {
         match self {
             Assertion::Pair(pair) => pair.value(card),
             Assertion::Share(share) => share.value(card),

@@ -25,11 +25,15 @@ impl Policy for Fixed {
 
     ghost modest = { Prim.search rules };
 
-    fn bet(&self) -> u16 {
+    fn bet(&self) -> u16
+        ensures { result ≡ min self.now.bet 1000 }
+    {
         self.bet.min(1000)
     }
 
-    fn tell(&mut self, _value: u16) {}
+    fn tell(&mut self, _value: u16)
+        ensures { self.new ≡ self.old }
+    {}
 }
 
 impl Shrinking {
@@ -67,7 +71,9 @@ impl Policy for Shrinking {
 
     ghost modest = { first_of (Prim.search rules, Prim.grind (arith, Self.row.coded.inj)) };
 
-    fn bet(&self) -> u16 {
+    fn bet(&self) -> u16
+        ensures { result ≡ shrinking_bet (shrinks self.now) }
+    {
         let spread = (self.top - self.half) as u64;
         let base = self.weight as u64 * self.first as u64 * spread;
         let dividend = base as i64 + 1000 * self.excess as i64;
@@ -76,7 +82,9 @@ impl Policy for Shrinking {
         bet.min(MOST) as u16
     }
 
-    fn tell(&mut self, value: u16) {
+    fn tell(&mut self, value: u16)
+        ensures { shrinks self.new ≡ shrinking_told (shrinks self.old) value }
+    {
         let value = value.min(self.top);
         if value != self.half && self.counted < LAST {
             self.counted += 1;
@@ -96,14 +104,18 @@ impl Policy for ChosenPolicy {
 
     ghost modest = { Prim.search rules };
 
-    fn bet(&self) -> u16 {
+    fn bet(&self) -> u16
+        ensures { result ≡ chosen_bet (chosen_state self.now) }
+    {
         match self {
             ChosenPolicy::Fixed(policy) => policy.bet(),
             ChosenPolicy::Shrinking(policy) => policy.bet(),
         }
     }
 
-    fn tell(&mut self, value: u16) {
+    fn tell(&mut self, value: u16)
+        ensures { chosen_state self.new ≡ chosen_told (chosen_state self.old) value }
+    {
         match self {
             ChosenPolicy::Fixed(policy) => policy.tell(value),
             ChosenPolicy::Shrinking(policy) => policy.tell(value),

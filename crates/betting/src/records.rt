@@ -16,13 +16,15 @@ pub struct Record<A, P> {
 // By hand, and `Copy` with it: `Clone` cannot be derived for a struct with a ghost field, if it has
 // type parameters.
 impl<A: Copy, P: Copy> Clone for Record<A, P> {
-    ghost use Rattle.std.specs.Prelude.{◌≡◌, ⊤};
+    ghost use Rattle.std.specs.Prelude.{◌≡◌, ⊤, Ok};
 
     ghost is_clone = { λ x y. y ≡ x };
 
     ghost is_infallible = { λ _. ⊤ };
 
-    fn clone(&self) -> Result<Record<A, P>, AllocError> {
+    fn clone(&self) -> Result<Record<A, P>, AllocError>
+        ensures { result ≡ Ok self.now }
+    {
         Ok(*self)
     }
 }
