@@ -1,10 +1,16 @@
-//! What the programs share: a file within its limit, and memory for what it describes.
+//! What the programs share: a file within its limit, memory for what it describes, and the setup
+//! that it holds or the line that says why it is refused.
 #![tactic(auto)]
 
-ghost use Rattle.std.specs.Prelude.{◌≤◌, IfSome, IfOk, vec_len};
+ghost use Rattle.std.specs.Prelude.{◌≡◌, ◌≤◌, IfSome, IfOk, vec_len};
+ghost use Rattle.std.specs.Result.{result_ok};
+ghost use Rattle.setup.specs.Reading.{held_lists, reading, SameMemory};
 
 pub mod memory;
 
+use setup::lists::Lists;
+use setup::read::read_setup;
+use setup::setup::Setup;
 use std::fs::File;
 use std::io;
 use std::io::{ErrorKind, Read};
@@ -45,4 +51,23 @@ pub fn read_or_tell(rt: &HostRuntime, path: &str) -> io::Result<Option<Vec<u8>>>
         tell_too_long(rt)?;
     }
     Ok(file)
+}
+
+/// The setup that these bytes are, read into the lists; where they are refused, the fault is printed.
+pub fn setup_or_tell(
+    rt: &HostRuntime,
+    file: &[u8],
+    lists: &mut Lists<'_>,
+) -> io::Result<Option<Setup>>
+    ensures answer { IfOk result (λ o. o ≡ result_ok (reading (held_lists lists.old) file.now).answer) }
+    ensures holds { held_lists lists.new ≡ (reading (held_lists lists.old) file.now).lists }
+    ensures memory { SameMemory lists.old lists.new }
+{
+    match read_setup(file, lists) {
+        Ok(setup) => Ok(Some(setup)),
+        Err(fault) => {
+            println!(rt; "{fault}")?;
+            Ok(None)
+        }
+    }
 }

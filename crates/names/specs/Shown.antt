@@ -1,8 +1,10 @@
--- Names, kinds and numbers of things as members read them.
+-- Names, kinds, policies and numbers of things as members read them.
 use Rattle.std.specs.Prelude.{◌≡◌, ◌≢◌, ℕ, ◌<◌, ◌-◌, ◌&&◌, List, [], ◌∷◌, ◌++◌, map, length, replicate, slice_index, codes, decimal, ◌==◌, nat_le, if◌then◌else◌}
 use Rattle.std.specs.List.{list_all}
 use Rattle.ballot.specs.declared.Kind.{Kind}
 use Rattle.ballot.specs.declared.Kind.TheVariants.{Plurality, Approval, Supermajority}
+use Rattle.setup.specs.declared.setup.PolicyChoice.{PolicyChoice}
+use Rattle.setup.specs.declared.setup.PolicyChoice.TheVariants.{Fixed, Shrinking}
 
 -- A printable sign of ASCII as itself, any other byte as `?`.
 abbrev pub sign_of : ℕ → ℕ
@@ -27,6 +29,11 @@ abbrev pub kind_line : Kind → List ℕ
 kind_line Plurality = codes "plurality"
 kind_line Approval = codes "approval"
 kind_line (Supermajority p q) = codes "supermajority of " ++ (decimal p ++ (codes "/" ++ decimal q))
+
+-- As "fixed" and "shrinking, weight 100".
+abbrev pub policy_line : PolicyChoice → List ℕ
+policy_line Fixed = codes "fixed"
+policy_line (Shrinking weight) = codes "shrinking, weight " ++ decimal weight
 
 -- As "1 seat" and "2 seats".
 abbrev pub many_line : ℕ → List ℕ → List ℕ → List ℕ

@@ -1,10 +1,11 @@
-//! Names and kinds as members read them.
+//! Names, kinds and policies as members read them.
 #![tactic(auto)]
 
 ghost use Rattle.std.specs.Prelude.{◌≡◌, Some};
-ghost use Rattle.names.specs.Shown.{CutsBlanks, kind_line, many_line, name_line, sign_of, without_blanks};
+ghost use Rattle.names.specs.Shown.{CutsBlanks, kind_line, many_line, name_line, policy_line, sign_of, without_blanks};
 
 use ballot::Kind;
+use setup::setup::PolicyChoice;
 use std::fmt;
 
 /// What fills a name up to its eight bytes.
@@ -63,6 +64,21 @@ impl fmt::Display for KindName {
             Kind::Plurality => write!(f, "plurality"),
             Kind::Approval => write!(f, "approval"),
             Kind::Supermajority { p, q } => write!(f, "supermajority of {p}/{q}"),
+        }
+    }
+}
+
+/// The policy that the bets follow, with its weight.
+#[derive(Clone, Copy)]
+pub struct PolicyName(pub PolicyChoice);
+
+impl fmt::Display for PolicyName {
+    ghost output = { λ x. Some (policy_line x.0) };
+
+    fn fmt<W: fmt::Write>(&self, f: &mut fmt::Formatter<W>) -> fmt::Result {
+        match self.0 {
+            PolicyChoice::Fixed => write!(f, "fixed"),
+            PolicyChoice::Shrinking { weight } => write!(f, "shrinking, weight {weight}"),
         }
     }
 }

@@ -10,9 +10,8 @@ mod steps;
 use assertion::{Planned, list_assertions};
 use bounded::List;
 use intake::memory::Memory;
-use intake::read_or_tell;
+use intake::{read_or_tell, setup_or_tell};
 use setup::lists::Lists;
-use setup::read::read_setup;
 use setup::setup::Terms;
 use std::io;
 
@@ -42,9 +41,9 @@ fn follow(
 fn pencil(rt: &HostRuntime, file: &[u8], line: &str) -> io::Result<()> {
     let mut memory = Memory::blank();
     let (mut lists, mut planned) = memory.lists();
-    match read_setup(file, &mut lists) {
-        Ok(setup) => follow(rt, line, &setup.terms, &lists, &mut planned),
-        Err(fault) => println!(rt; "{fault}"),
+    match setup_or_tell(rt, file, &mut lists)? {
+        Some(setup) => follow(rt, line, &setup.terms, &lists, &mut planned),
+        None => Ok(()),
     }
 }
 

@@ -4,21 +4,18 @@
 mod outline;
 
 use intake::memory::Memory;
-use intake::read_or_tell;
-use setup::read::read_setup;
+use intake::{read_or_tell, setup_or_tell};
 use std::io;
 
 /// Reads the bytes as a setup, and prints its plan or its fault.
 fn plan(rt: &HostRuntime, file: &[u8]) -> io::Result<()> {
     let mut memory = Memory::blank();
     let (mut lists, mut planned) = memory.lists();
-    match read_setup(file, &mut lists) {
-        Ok(setup) => {
-            outline::print_terms(rt, &setup, lists.batches.items())?;
-            outline::print_contests(rt, &lists, &mut planned)
-        }
-        Err(fault) => println!(rt; "{fault}"),
-    }
+    let Some(setup) = setup_or_tell(rt, file, &mut lists)? else {
+        return Ok(());
+    };
+    outline::print_terms(rt, &setup, lists.batches.items())?;
+    outline::print_contests(rt, &lists, &mut planned)
 }
 
 fn main(rt: HostRuntime) -> io::Result<()> {

@@ -2,9 +2,9 @@
 use assertion::{Assertion, Pair, Planned, Share, list_assertions};
 use ballot::{Batch, Candidate, Contest, all_votes};
 use bounded::List;
-use names::{KindName, Many, Name};
+use names::{KindName, Many, Name, PolicyName};
 use setup::lists::Lists;
-use setup::setup::{PolicyChoice, Setup};
+use setup::setup::Setup;
 use std::io;
 
 /// The manifest, with the places of the cards of each batch, and the terms.
@@ -25,10 +25,8 @@ pub(crate) fn print_terms(rt: &HostRuntime, setup: &Setup, batches: &[Batch]) ->
     let draw_limit = terms.draw_limit;
     println!(rt; "risk limit {risk_limit} thousandths")?;
     println!(rt; "draw limit {draw_limit}")?;
-    match terms.policy {
-        PolicyChoice::Fixed => println!(rt; "policy fixed"),
-        PolicyChoice::Shrinking { weight } => println!(rt; "policy shrinking, weight {weight}"),
-    }
+    let policy = PolicyName(terms.policy);
+    println!(rt; "policy {policy}")
 }
 
 /// The winners of a contest, with their reported votes.

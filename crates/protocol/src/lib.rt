@@ -8,12 +8,11 @@ use answers::print_answers;
 use calls::{Answer, open};
 use format::count::commands_in;
 use intake::memory::Memory;
-use intake::{read_file, tell_too_long};
+use intake::{read_file, setup_or_tell, tell_too_long};
 use records::blank_records;
 use refusal::{Fault, File};
 use replay::replay;
 use setup::lists::Lists;
-use setup::read::read_setup;
 use setup::setup::Setup;
 use std::io;
 
@@ -47,9 +46,9 @@ fn print_draws(rt: &HostRuntime, setup: Setup, lists: &Lists<'_>, draws: &[u8]) 
 fn print_audit(rt: &HostRuntime, setup: &[u8], draws: &[u8]) -> io::Result<()> {
     let mut memory = Memory::blank();
     let (mut lists, _) = memory.lists();
-    match read_setup(setup, &mut lists) {
-        Ok(setup) => print_draws(rt, setup, &lists, draws),
-        Err(fault) => println!(rt; "{fault}"),
+    match setup_or_tell(rt, setup, &mut lists)? {
+        Some(setup) => print_draws(rt, setup, &lists, draws),
+        None => Ok(()),
     }
 }
 

@@ -7,10 +7,9 @@
 use ballot::limits::{BATCHES, CONTESTS};
 use bounded::List;
 use intake::memory::{CANDIDATES, Memory};
-use intake::{read_file, read_or_tell};
+use intake::{read_file, read_or_tell, setup_or_tell};
 use protocol::print_audit_of;
 use setup::lists::Lists;
-use setup::read::read_setup;
 use std::{fs, io};
 
 /// How many places each list has.
@@ -35,9 +34,9 @@ fn judge(rt: &HostRuntime, file: &[u8], places: Places) -> io::Result<()> {
         contests: List::over(&mut memory.contests[0..places.contests.min(CONTESTS)]),
         candidates: List::over(&mut memory.candidates[0..places.candidates.min(CANDIDATES)]),
     };
-    match read_setup(file, &mut lists) {
-        Ok(_) => println!(rt; "accepted"),
-        Err(fault) => println!(rt; "{fault}"),
+    match setup_or_tell(rt, file, &mut lists)? {
+        Some(_) => println!(rt; "accepted"),
+        None => Ok(()),
     }
 }
 
