@@ -64,11 +64,11 @@ plans plan = plan.claim
 -- all claims of a contest's part hold just when it was truly won
 part_won :
     (j k : ℕ) (xs : List Contest) (cs : List Candidate) (ys : List (Account Assertion Chosen)) → each_stands xs cs ≡ true →
-    map says ys ≡ map plans (planned j xs cs) → k < length xs → (cards : List Card) →
+    map says ys ≡ map plans (planned j xs cs) → (cards : List Card) →
     JustWhen (AllByRecursion (λ x. Holds (says x) cards) (get_or (parts (map assertion_count xs) ys) k [])) (WonFrom j k xs cs cards)
 unfolding planned each_stands
-part_won j k [] cs ys h same inside cards = absurd (omega arith)
-part_won j zero (x ∷ xs) cs ys h same inside cards =
+part_won j k [] cs ys h same cards = (λ _. tt, λ _. tt)
+part_won j zero (x ∷ xs) cs ys h same cards =
     let own = take x.candidates cs in
     let rest = drop x.candidates cs in
     let n = assertion_count x in
@@ -79,32 +79,32 @@ part_won j zero (x ∷ xs) cs ys h same inside cards =
       λ all. tell.0 (all_same P says plans (take n ys) (planned_of j x own) here all),
       λ won. all_same P plans says (planned_of j x own) (take n ys) (sym here) (tell.1 won),
     )
-part_won j (suc k) (x ∷ xs) cs ys h same inside cards =
+part_won j (suc k) (x ∷ xs) cs ys h same cards =
     let own = take x.candidates cs in
     let rest = drop x.candidates cs in
     let n = assertion_count x in
     let b = and_parts (contest_stands x own) (each_stands xs rest) h in
     let later = back_same says plans ys (planned_of j x own) (planned (j + 1) xs rest) n (count_of j x own b.0) same in
-    part_won (j + 1) k xs rest (drop n ys) b.1 later (omega arith) cards
+    part_won (j + 1) k xs rest (drop n ys) b.1 later cards
 
 module _ (xs : List Contest) (cs : List Candidate) (t : Terms) (σ : State Assertion Chosen) (own : OwnAccounts xs cs t σ) where
-  claims_tell_won : (b : Ballot) (k : ℕ) → k < length xs → JustWhen (ClaimsHold own_rules t σ b k) (Won k xs cs b.cards)
-  claims_tell_won b k inside =
+  claims_tell_won : (b : Ballot) (k : ℕ) → JustWhen (ClaimsHold own_rules t σ b k) (Won k xs cs b.cards)
+  claims_tell_won b k =
       let P : Account Assertion Chosen → Type 0 = λ x. Holds (says x) b.cards in
       subst (λ ns. JustWhen (AllByRecursion P (get_or (parts ns σ.accounts) k [])) (Won k xs cs b.cards)) (sym own.parts_are)
-      (part_won 0 k xs cs σ.accounts own.stand own.claims_are inside b.cards)
+      (part_won 0 k xs cs σ.accounts own.stand own.claims_are b.cards)
 
   pub contradicted_when_lost : ContradictedWhenLost xs cs t σ
-  contradicted_when_lost b k inside =
+  contradicted_when_lost b k =
       let P : Account Assertion Chosen → Type 0 = λ x. Holds (says x) b.cards in
       let part = accounts_of own_rules t σ k in
-      let tell = claims_tell_won b k inside in (
+      let tell = claims_tell_won b k in (
         λ bad won. some_not_all P part bad (tell.1 won),
         λ lost. ⊎_elim (λ all. absurd (lost (tell.0 all))) (λ bad. bad) (all_or_any P (λ x. holds_or_not (says x) b.cards) part),
       )
 
   pub limits_wrong_boards : RiskLimited own_rules t σ → LimitsWrongBoards xs cs t σ
-  limits_wrong_boards limited b fits ms hs k inside lost = limited b fits ms hs k ((contradicted_when_lost b k inside).1 lost)
+  limits_wrong_boards limited b fits ms hs k lost = limited b fits ms hs k ((contradicted_when_lost b k).1 lost)
 
   pub hand_count_decides : CountsDecide own_rules → Opened σ → t.cards ≤ 65535 → HandCountDecides xs cs t σ
   hand_count_decides decide fresh few before h b fits =
@@ -114,8 +114,8 @@ module _ (xs : List Contest) (cs : List Candidate) (t : Terms) (σ : State Asser
       record {
         outcomes = closes.outcomes;
         answer = closes.answer;
-        only_if_won = λ k lt e. (claims_tell_won b k lt).0 (closes.only_if k (within k lt) e);
+        only_if_won = λ k lt e. (claims_tell_won b k).0 (closes.only_if k (within k lt) e);
         just_when_won = λ found k lt.
             let hold = closes.just_when found k (within k lt) in
-            let tell = claims_tell_won b k lt in (λ e. tell.0 (hold.0 e), λ won. hold.1 (tell.1 won));
+            let tell = claims_tell_won b k in (λ e. tell.0 (hold.0 e), λ won. hold.1 (tell.1 won));
       }

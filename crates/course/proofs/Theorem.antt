@@ -314,7 +314,7 @@ module _ {A S : Type 0} (R : Rules A S) (t : Terms) (law : Lawful R) (σ : State
 
 module _ {A S : Type 0} (R : Rules A S) (law : Lawful R) where
   pub measures_risk : MeasuresRisk R
-  measures_risk t σ o b fits ms hs k bad p lo hi m c = measured R t law σ o b fits ms hs k bad p m c
+  measures_risk t σ o b fits ms hs k bad p m c = measured R t law σ o b fits ms hs k bad p m c
 
   pub limits_risk : LimitsRisk R
   limits_risk t σ o b fits ms hs k bad m c = limited R t law σ o b fits ms hs k bad m c

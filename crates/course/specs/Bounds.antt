@@ -57,7 +57,7 @@ module _ {A S : Type 0} (R : Rules A S) (t : Terms) (σ : State A S) where
   abbrev pub RiskMeasured : Type 0
   RiskMeasured =
       (b : Ballot) → Fits t b → (ms : List (Move t)) (hs : Option (List (Hand t))) (k : ℕ) → Contradicted b k →
-      (p : ℕ) → 1 ≤ p → p ≤ 1000 → (m : ℕ) →
+      (p m : ℕ) →
       Counted (λ s. Any (LowRisk k p) (course R t σ (calls t b ms hs s))) (sequences t.cards (draws_in ms)) m →
       1000 * m ≤ p * t.cards ^ draws_in ms
 

@@ -1,5 +1,6 @@
 -- An audit that can be worked out by hand: two cards, one for each candidate, and all votes reported for the first.
-use Rattle.std.specs.Prelude.{◌≡◌, ℕ, ◌*◌, ◌^◌, ◌≤◌, min, false, List, [], ◌∷◌, map, length, replicate, None}
+use Rattle.std.specs.Prelude.{◌≡◌, ℕ, ◌*◌, ◌^◌, ◌≤◌, min, Bool, true, false, List, [], ◌∷◌, map, length, replicate, None, ◌==◌}
+use Rattle.std.specs.List.{AllByRecursion}
 use Rattle.ballot.specs.declared.Card.{Card}
 use Rattle.ballot.specs.declared.Candidate.{Candidate}
 use Rattle.ballot.specs.declared.Contest.{Contest}
@@ -10,9 +11,12 @@ use Rattle.assorter.specs.Values.{Holds, worth}
 use Rattle.chance.specs.Sequences.{sequences, Counted}
 use Rattle.betting.specs.Accounts.{opened}
 use Rattle.course.specs.Terms.{Terms}
-use Rattle.course.specs.Course.{Rules, State, course}
+use Rattle.course.specs.Course.{Rules, State, Call, Answer, course, step}
+use Rattle.course.specs.Course.Call.{escalation, closing}
+use Rattle.course.specs.Course.Answer.{upheld}
 use Rattle.course.specs.Scripts.{Ballot, Move, calls}
-use Rattle.course.specs.Bounds.{Any, Contradicted, LowRisk}
+use Rattle.course.specs.Bounds.{Any, Contradicted, Fits, LowRisk, Opened, WrongAnswer}
+use Rattle.course.specs.Laws.{BeforeEscalation, counts_to, left_by}
 
 -- The claims, and a bet that stays.
 abbrev pub fixed_rules : Rules Claim ℕ
@@ -30,11 +34,16 @@ for_candidate i = record { marks = 2 ^ i ∷ replicate 7 0 }
 abbrev pub both_found : Ballot
 both_found = record { cards = for_candidate 0 ∷ for_candidate 1 ∷ []; missing = λ i. false }
 
+-- Both cards are for the first candidate.
+abbrev pub all_first : (ℕ → Bool) → Ballot
+all_first missing = record { cards = for_candidate 0 ∷ for_candidate 0 ∷ []; missing = missing }
+
 abbrev pub plans : List Plan
 plans = planned_of 0 one_seat reported
 
+-- The risk limit is above all that an audit can have, so that one draw may confirm.
 abbrev pub two_cards : Terms
-two_cards = record { cards = 2; limit = 50; draws = 10; candidates = 2 ∷ []; assertions = length plans ∷ [] }
+two_cards = record { cards = 2; limit = 513; draws = 10; candidates = 2 ∷ []; assertions = length plans ∷ [] }
 
 abbrev pub just_opened : State Claim ℕ
 just_opened = record { accounts = map (λ plan. opened plan.claim plan.bet) plans; drawn = 0; counted = 0 }
@@ -45,12 +54,33 @@ FallsTo p s =
     Any (LowRisk fixed_rules two_cards just_opened 0 p)
     (course fixed_rules two_cards just_opened (calls two_cards both_found (Move.drawn ∷ []) None s))
 
+-- One entry, and a verdict.
+abbrev pub draw_and_ask : List ℕ → List Call
+draw_and_ask s = calls two_cards both_found (Move.drawn ∷ Move.ask ∷ []) None s
+
+-- Some answer is wrong.
+abbrev pub Misled : List ℕ → Type 0
+Misled s =
+    Any (WrongAnswer fixed_rules two_cards just_opened both_found) (course fixed_rules two_cards just_opened (draw_and_ask s))
+
+-- What the closing answers after a hand count of both places.
+abbrev pub closed : Ballot → Answer
+closed b = (step fixed_rules two_cards (left_by fixed_rules two_cards just_opened (escalation ∷ counts_to b 2)) closing).1
+
 -- The bet is 950 and the reported winner didn't win. So many of the two draws bring the risk that low, none brings it
--- lower, and these are no more than the risk's share of them.
+-- lower, and so many mislead a verdict; these are no more than the risk's share of them. A hand count upholds the contest
+-- where both cards are for its winner and found.
 pub record Worked (risk count : ℕ) : Type 0 where
   pub bets : map (λ plan. plan.bet) plans ≡ 950 ∷ []
   pub contradicted : Contradicted fixed_rules two_cards just_opened both_found 0
   pub lowest : risk ≡ 513
   pub counted : Counted (FallsTo risk) (sequences 2 1) count
   pub none_lower : Counted (FallsTo 512) (sequences 2 1) 0
+  pub misled : Counted Misled (sequences 2 1) count
   pub bounded : 1000 * count ≤ risk * 2 ^ 1
+  pub fits : Fits two_cards both_found
+  pub opens : Opened just_opened
+  pub before : AllByRecursion BeforeEscalation (draw_and_ask (1 ∷ []))
+  pub lost : closed both_found ≡ upheld (false ∷ [])
+  pub won : closed (all_first (λ i. false)) ≡ upheld (true ∷ [])
+  pub won_but_for_one : closed (all_first (λ i. i == 2)) ≡ upheld (false ∷ [])

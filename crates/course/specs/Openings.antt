@@ -51,14 +51,14 @@ module _ (xs : List Contest) (cs : List Candidate) (t : Terms) (σ : State Asser
   -- The cards contradict a contest just when its reported winners did not truly win.
   abbrev pub ContradictedWhenLost : Type 0
   ContradictedWhenLost =
-      (b : Ballot) (k : ℕ) → k < length xs →
+      (b : Ballot) (k : ℕ) →
       JustWhen (Contradicted own_rules t σ b k) (Won k xs cs b.cards → ⊥)
 
   -- Where the reported winners of some contest did not truly win, at most the risk limit's share of all draw sequences
   -- confirm, or uphold such a contest.
   abbrev pub LimitsWrongBoards : Type 0
   LimitsWrongBoards =
-      (b : Ballot) → Fits t b → (ms : List (Move t)) (hs : Option (List (Hand t))) (k : ℕ) → k < length xs →
+      (b : Ballot) → Fits t b → (ms : List (Move t)) (hs : Option (List (Hand t))) (k : ℕ) →
       (Won k xs cs b.cards → ⊥) → (m : ℕ) →
       Counted (λ s. Any (WrongAnswer own_rules t σ b) (course own_rules t σ (calls t b ms hs s))) (sequences t.cards (draws_in ms)) m →
       1000 * m ≤ t.limit * t.cards ^ draws_in ms

@@ -1,4 +1,4 @@
-use Rattle.std.proofs.Common.{ℕ, sym, refl, subst, inl, ⊎_elim, arith}
+use Rattle.std.proofs.Common.{ℕ, sym, refl, subst, inl, inr, ⊎_elim, arith}
 use lib.Count.{ones, ones_in}
 use Rattle.chance.specs.Sequences.Counted.{none, has, lacks}
 use Rattle.course.specs.Example.{Worked}
@@ -12,7 +12,14 @@ worked = record {
   lowest = refl;
   counted = lacks (⊎_elim (λ m. omega arith) (λ m. m)) (has (inl (omega arith, omega arith)) none);
   none_lower = lacks (⊎_elim (λ m. omega arith) (λ m. m)) (lacks (⊎_elim (λ m. omega arith) (λ m. m)) none);
+  misled = lacks (⊎_elim (λ m. m) (⊎_elim (λ m. m) (λ m. m))) (has (inr (inl tt)) none);
   bounded = omega arith;
+  fits = record { number = refl; marked = (refl, (refl, tt)) };
+  opens = record { fresh = (refl, tt); undrawn = refl; uncounted = refl };
+  before = (tt, (tt, tt));
+  lost = refl;
+  won = refl;
+  won_but_for_one = refl;
 }
 
 pub returns : goal.returns
