@@ -18,10 +18,11 @@ fn put(text: &[u8], report: &mut [u8]) -> usize
     ensures answer { result ≡ length text.now }
     ensures report { report.new ≡ reported text.now report.old }
 {
-    if text.len() <= report.len() {
-        report[..text.len()].copy_from_slice(text);
+    let length = text.len();
+    if length <= report.len() {
+        report[..length].copy_from_slice(text);
     }
-    text.len()
+    length
 }
 
 /// The report of the audit of a setup file and a draws file, to the front of the memory for it, or
@@ -72,6 +73,25 @@ mod tests {
             EMPTY.len()
         );
         assert_eq!(rt; &report[..], b"refused 1 file 1 at 0\n..".as_slice());
+    }
+
+    // A box of 100 cards; one seat, ADAMS with 60 votes and BAKER with 40.
+    const ONE_CONTEST: &[u8] =
+        b"\x01BOX-0001\x00\x64\x02\x00\x32\x01\x90\x01\x00\x00\x03\x01\x02\x01\x00\x00\x00\x00\x04ADAMS   \x00\x3c\x04BAKER   \x00\x28\x05";
+
+    #[test]
+    fn a_verdict_and_a_fault(rt: HostRuntime) {
+        let mut report = [b'.'; 64];
+        // A verdict, and then a count before the escalation.
+        let length = riszvomaj_report(rt.alloc(), ONE_CONTEST, b"\x12\x14", &mut report);
+        let written = report.get(..length).unwrap_or(&[]);
+        assert_eq!(rt;
+            written,
+            b"contest 1 risk 1000\ndraws 0\ncontinue\nrefused 2 file 2 at 1\n".as_slice()
+        );
+        let mut offset = 7;
+        assert_eq!(rt; riszvomaj_read_setup(ONE_CONTEST, &mut offset), 0);
+        assert_eq!(rt; offset, 7);
     }
 
     #[test]

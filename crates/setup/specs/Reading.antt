@@ -168,6 +168,11 @@ pub record Stepped : Type 0 where
   pub answer : Result Progress Refusal
   pub lists : HeldLists
 
+-- What a step of the program answers and makes of the reading, as the same.
+abbrev pub come_to : Progress → Result Unit Refusal → Result Progress Refusal
+come_to p (Ok done) = Ok p
+come_to p (Err e) = Err e
+
 abbrev pub step_batch : Progress → HeldLists → Batch → Stepped
 step_batch p ls b =
     record {
@@ -241,14 +246,14 @@ followed p ls (Err e) = record { answer = Err e; lists = ls }
 abbrev pub turn : Progress → HeldLists → List ℕ → Turned
 turn p ls bs = followed p ls (next p.phase bs)
 
--- What a turn of the program answers, and the lists after it, as the same.
-abbrev pub turned : Result (Progress × Bor (List ℕ)) Refusal → HeldLists → Turned
-turned (Ok x) ls = record { answer = Ok (record { progress = x.0; rest = x.1.now }); lists = ls }
-turned (Err e) ls = record { answer = Err e; lists = ls }
+-- What a turn of the program answers, and how far it and the lists have come, as the same.
+abbrev pub turned : Progress → Result (Bor (List ℕ)) Refusal → HeldLists → Turned
+turned p (Ok rest) ls = record { answer = Ok (record { progress = p; rest = rest.now }); lists = ls }
+turned p (Err e) ls = record { answer = Err e; lists = ls }
 
 -- Fewer than n bytes are left.
-abbrev pub Shorter : ℕ → Result (Progress × Bor (List ℕ)) Refusal → Type 0
-Shorter n (Ok x) = length x.1.now < n
+abbrev pub Shorter : ℕ → Result (Bor (List ℕ)) Refusal → Type 0
+Shorter n (Ok rest) = length rest.now < n
 Shorter n (Err e) = Unit {0}
 
 abbrev pub nothing_read : Progress

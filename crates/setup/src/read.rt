@@ -43,17 +43,17 @@ fn is_opened(phase: Phase) -> bool
 
 /// The next command is taken and followed.
 fn turn<'a>(
-    at: Progress,
+    at: &mut Progress,
     lists: &mut Lists<'_>,
     bytes: &'a [u8],
-) -> Result<(Progress, &'a [u8]), Refusal>
-    ensures value { turned result (held_lists lists.new) ≡ turn at (held_lists lists.old) bytes.now }
+) -> Result<&'a [u8], Refusal>
+    ensures value { turned at.new result (held_lists lists.new) ≡ turn at.old (held_lists lists.old) bytes.now }
     ensures shorter { Shorter (length bytes.now) result }
     ensures memory { SameMemory lists.old lists.new }
 {
     let (command, rest) = next_command(bytes, at.phase)?;
-    let next = step(at, lists, command)?;
-    Ok((next, rest))
+    step(at, lists, command)?;
+    Ok(rest)
 }
 
 /// The commands of the file, into lists that are empty; a refusal leaves what was added before it.
@@ -66,8 +66,7 @@ fn read_commands(file: &[u8], lists: &mut Lists<'_>) -> Result<Setup, Fault>
     let mut rest = file;
     'turns: while !is_opened(at.phase) {
         let fault = |refusal| Fault::at(File::Setup, file, rest, refusal);
-        let (next, after) = turn(at, lists, rest).map_err(fault)?;
-        at = next;
+        let after = turn(&mut at, lists, rest).map_err(fault)?;
         rest = after;
     }
     if !rest.is_empty() {

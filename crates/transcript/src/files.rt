@@ -7,6 +7,7 @@ ghost use Rattle.transcript.specs.Transcripts.{Tells, Told};
 use crate::lines::transcript;
 use crate::memory::blank_records;
 use calls::{Answer, open};
+use format::count::commands_in;
 use intake::memory::Memory;
 use replay::replay;
 use setup::lists::Lists;
@@ -32,7 +33,7 @@ fn follow(
         // A setup that was read is one that is held, and there is a record for each assertion.
         Err(_) => unreachable!(),
     };
-    let mut answers = vec![in alloc; Answer::Taken; draws.len()]?;
+    let mut answers = vec![in alloc; Answer::Taken; commands_in(draws)]?;
     let places = answers.as_mut_slice();
     let replayed = replay(audit, &mut records, draws, places);
     transcript(alloc, &places[..replayed.answered], replayed.fault)

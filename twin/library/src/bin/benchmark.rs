@@ -1,6 +1,7 @@
 //! `benchmark`: the twin and the library on the same files, in one process.
 //! Each case is run once to warm up and then by turns; the times are the
-//! median and the best of the rounds.
+//! median and the best of the rounds, in time of the processor, since others
+//! may use the machine.
 
 use std::time::{Duration, Instant};
 use twin::generate::random::Random;
@@ -156,8 +157,8 @@ fn row(name: &str, steps: usize, twin: impl FnMut(), library: impl FnMut()) {
         libraries.push(library());
     }
     let per_step = |seconds: f64| 1e9 * seconds / steps as f64;
-    let (median, best) = (of_middle(&mut twins), twins[0]);
-    let (own_median, own_best) = (of_middle(&mut libraries), libraries[0]);
+    let (median, best) = (middle(&mut twins), twins[0]);
+    let (own_median, own_best) = (middle(&mut libraries), libraries[0]);
     println!(
         "{name:<44} {:>9.1} {:>9.1} {:>6.2}   {:>9.1} {:>9.1} {:>6.2} {:>11.0}",
         per_step(median), per_step(own_median), own_median / median,
@@ -169,9 +170,9 @@ fn row(name: &str, steps: usize, twin: impl FnMut(), library: impl FnMut()) {
 fn repeated(mut run: impl FnMut()) -> impl FnMut() -> f64 {
     let mut times = 1u32;
     let mut timed = move |times: u32| {
-        let begun = Instant::now();
+        let begun = processor_seconds();
         (0..times).for_each(|_| run());
-        begun.elapsed().as_secs_f64()
+        processor_seconds() - begun
     };
     while timed(times) < 0.0005 {
         times *= 2;
@@ -179,8 +180,28 @@ fn repeated(mut run: impl FnMut()) -> impl FnMut() -> f64 {
     move || timed(times) / f64::from(times)
 }
 
+#[repr(C)]
+struct Clock {
+    seconds: i64,
+    nanoseconds: i64,
+}
+
+extern "C" {
+    fn clock_gettime(clock: i32, time: &mut Clock) -> i32;
+}
+
+/// What this thread has had of a processor, as Linux counts it.
+fn processor_seconds() -> f64 {
+    const CLOCK_THREAD_CPUTIME_ID: i32 = 3;
+    let mut time = Clock { seconds: 0, nanoseconds: 0 };
+    // The C library fills in the two numbers.
+    let answer = unsafe { clock_gettime(CLOCK_THREAD_CPUTIME_ID, &mut time) };
+    assert_eq!(answer, 0);
+    time.seconds as f64 + 1e-9 * time.nanoseconds as f64
+}
+
 /// The middle of the times, which are sorted.
-fn of_middle(times: &mut [f64]) -> f64 {
+fn middle(times: &mut [f64]) -> f64 {
     times.sort_by(f64::total_cmp);
     times[times.len() / 2]
 }
@@ -214,7 +235,10 @@ impl Shape {
     fn words(self) -> String {
         match self.kind {
             3 => "1 assertion of a share".to_string(),
-            _ => format!("{} assertions", u16::from(self.seats) * u16::from(self.candidates - self.seats)),
+            _ => match u16::from(self.seats) * u16::from(self.candidates - self.seats) {
+                1 => "1 assertion".to_string(),
+                number => format!("{number} assertions"),
+            },
         }
     }
 
