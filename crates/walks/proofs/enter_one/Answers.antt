@@ -1,8 +1,6 @@
-use Rattle.std.proofs.Common.{ℕ, option_copied, ap, sym, ◌∙◌, arith}
+use Rattle.std.proofs.Common.{ℕ, option_copied, ap, ◌∙◌}
 use Rattle.betting.specs.Accounts.{Account, account, cut, played}
-use Rattle.betting.proofs.Cuts.{uncut}
 use Rattle.course.specs.Course.{rules_of}
-use Rattle.walks.specs.Walks.{as_found}
 use Rattle.walks.proofs.Tests.{seen_worth}
 use Rattle.walks.proofs.enter_one.Goals as goal
 
