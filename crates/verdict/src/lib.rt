@@ -16,11 +16,13 @@ pub enum Finding {
 
 /// The state of an audit after some draws.
 #[derive(Clone, Copy, PartialEq, Eq, Debug)]
+// The fields stand in an order that leaves no gap: an answer is copied with every entry, and one with
+// gaps takes half as long again.
 pub struct Verdict {
     pub finding: Finding,
-    pub draws: u16,
     /// How many contests there are; the places of `risks` beyond them say nothing.
     pub contests: u8,
+    pub draws: u16,
     /// The risk of each contest in thousandths, the first contest's in place 0.
     // An array: an answer is copied into the caller's memory, and an `ArrayVec` is not `Copy`.
     pub risks: [u16; 8],
