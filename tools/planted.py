@@ -13,10 +13,11 @@ takes all crates, for an hour or more. A bug is a block of lines:
     by: who judges it
     refused: what refuses it
 
-`old:` and `new:` may come again. `passes:` in place of `refused:` says why nothing changes that anyone
-can observe. Without `by:` the prover judges, as it does with edits that must fail. `by: run` runs the
-program, unproved, and compares what it prints with its `stdout`; `by: tests` runs the crate's tests;
-`by: check NAME` proves a crate above this one. The status is 0 where all came out as written here.
+`old:` and `new:` may come again. `passes:` in place of `refused:` says why nothing refuses it. Without
+`by:` the prover judges, as it does with edits that must fail. `by: run NAME..` runs these programs,
+unproved, and compares what each prints with its `stdout`; `by: tests NAME` runs that crate's tests, and
+`by: check NAME` proves a crate above this one. Of several names one that refuses is enough. The status
+is 0 where all came out as written here.
 """
 
 import os
@@ -48,13 +49,17 @@ def told(bug, word):
     return next((text for key, text in bug if key == word), None)
 
 
-def run(command, folder):
-    done = subprocess.run(command, cwd=folder, capture_output=True, text=True, stdin=subprocess.DEVNULL, check=False)
-    return done.returncode, done.stdout + done.stderr
+def run(command, folder, given=os.devnull):
+    """How the command ended, and what it wrote to its two outputs."""
+    with open(given, "rb") as stdin:
+        done = subprocess.run(command, cwd=folder, capture_output=True, text=True, errors="replace", stdin=stdin, check=False)
+    return done.returncode, done.stdout, done.stderr
 
 
 def by_prover(tree, crate, bugs):
     """Tries the bugs as edits that must fail: which of them were refused."""
+    if not bugs:
+        return {}
     folder = os.path.join(tree, "crates", crate, "must-fail")
     shutil.rmtree(folder, ignore_errors=True)
     os.makedirs(folder)
@@ -62,7 +67,7 @@ def by_prover(tree, crate, bugs):
         kept = [f"{word}: {text}" for word, text in bug if word in ("file", "old", "new")]
         with open(os.path.join(folder, told(bug, "bug") + ".edit"), "w", encoding="utf-8") as file:
             file.write("\n".join(kept) + "\n")
-    _, text = run(["rt", "must-fail", crate], tree)
+    _, text, _ = run(["rt", "must-fail", crate], tree)
     found = re.findall(r"must-fail \w+/(\w+)\.edit: (refused|NOT REFUSED|BAD EDIT|NOT TRIED)", text)
     return {label: {"refused": True, "NOT REFUSED": False}.get(what) for label, what in found}
 
@@ -89,12 +94,27 @@ def write(path, text):
         file.write(text)
 
 
-def run_differs(tree, crate):
-    """Whether the program prints something else than its stdout."""
-    home = os.path.join(tree, "crates", crate)
-    status, text = run(["rt", "try"], home)
-    with open(os.path.join(home, "stdout"), encoding="utf-8") as file:
-        return status != 0 or file.read() not in text
+def run_differs(home):
+    """Whether the program prints something else than its stdout, or ends otherwise; None where it does not run."""
+    data, given, wanted = (os.path.join(home, name) for name in ("data", "stdin", "stdout"))
+    command = ["rt", "try"]
+    for name in sorted(os.listdir(data)):
+        command += ["--data", f"{name}={os.path.join(data, name)}"]
+    status, printed, said = run(command, home, given if os.path.exists(given) else os.devnull)
+    with open(wanted, encoding="utf-8") as file:
+        return None if "run=none" in said else status != 0 or printed != file.read()
+
+
+def tests_fail(home):
+    """Whether a test of the crate fails; None where they do not run."""
+    status, _, said = run(["rt", "try", "--test"], home)
+    return None if "run=none" in said else status != 0
+
+
+def check_fails(home):
+    """Whether the crate is not proved; None where the prover does not judge it."""
+    status, told, _ = run(["rt", "check"], home)
+    return True if "logic=not-proved" in told else False if status == 0 else None
 
 
 def judged(tree, crate, bug):
@@ -102,15 +122,11 @@ def judged(tree, crate, bug):
     undo = with_bug(tree, crate, bug)
     if undo is None:
         return None
-    how, _, other = told(bug, "by").partition(" ")
-    if how == "run":
-        refused = run_differs(tree, other or crate)
-    elif how == "tests":
-        refused = run(["rt", "try", "--test"], os.path.join(tree, "crates", other or crate))[0] != 0
-    else:
-        refused = run(["rt", "check"], os.path.join(tree, "crates", other))[0] != 0
+    how, *names = told(bug, "by").split()
+    judge = {"run": run_differs, "tests": tests_fail, "check": check_fails}[how]
+    found = [judge(os.path.join(tree, "crates", name)) for name in names]
     undo()
-    return refused
+    return True if True in found else None if None in found else False
 
 
 def main():
