@@ -56,6 +56,13 @@ risk_quiet contest risk =
     let front = quiet_append (codes "contest " ++ decimal contest) (codes " risk ") (contest_quiet contest) refl in
     quiet_append (risk_front contest) (decimal risk) front (decimal_quiet risk)
 
+-- The text of an outcome's line before its words.
+abbrev pub outcome_front : ℕ → List ℕ
+outcome_front contest = codes "contest " ++ decimal contest
+
+pub outcome_text_quiet : (contest : ℕ) (upheld : Bool) → line_count (outcome_front contest ++ outcome upheld) ≡ 0
+outcome_text_quiet contest upheld = quiet_append (outcome_front contest) (outcome upheld) (contest_quiet contest) (outcome_quiet upheld)
+
 draws_line_one : (draws : ℕ) → line_count (draws_line draws) ≡ 1
 draws_line_one draws = quiet_line (codes "draws " ++ decimal draws) (draws_quiet draws)
 
@@ -63,9 +70,7 @@ risk_line_one : (contest risk : ℕ) → line_count (risk_line contest risk) ≡
 risk_line_one contest risk = quiet_line (risk_front contest ++ decimal risk) (risk_quiet contest risk)
 
 outcome_line_one : (contest : ℕ) (upheld : Bool) → line_count (outcome_line contest upheld) ≡ 1
-outcome_line_one contest upheld =
-    let front = codes "contest " ++ decimal contest in
-    quiet_line (front ++ outcome upheld) (quiet_append front (outcome upheld) (contest_quiet contest) (outcome_quiet upheld))
+outcome_line_one contest upheld = quiet_line (outcome_front contest ++ outcome upheld) (outcome_text_quiet contest upheld)
 
 finding_line_one : (finding : Finding) → line_count (finding_line finding) ≡ 1
 finding_line_one Confirm = refl

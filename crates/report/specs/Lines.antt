@@ -1,5 +1,5 @@
 -- The printed lines of a report, as bytes.
-use Rattle.std.specs.Prelude.{◌≡◌, ℕ, ◌+◌, Bool, true, false, cond, List, [], ◌∷◌, ◌++◌, length, drop, Ok, Err, codes, decimal, count_by, Result, nat_eq, nat_le}
+use Rattle.std.specs.Prelude.{◌≡◌, ℕ, ◌+◌, Bool, true, false, if◌then◌else◌, List, [], ◌∷◌, ◌++◌, length, drop, Ok, Err, codes, decimal, count_by, Result, nat_eq, nat_le}
 use Rattle.arrayvec.specs.ArrayString.{ArrayString}
 use Rattle.refusal.specs.declared.Refusal.{Refusal}
 use Rattle.refusal.specs.declared.Refusal.TheVariants.{ReportTooLong}
@@ -30,11 +30,13 @@ risk_line contest risk = line (codes "contest " ++ decimal contest ++ codes " ri
 abbrev pub draws_line : ℕ → List ℕ
 draws_line draws = line (codes "draws " ++ decimal draws)
 
+-- What the members are to do next, in words.
 abbrev pub finding_line : Finding → List ℕ
 finding_line Confirm = line (codes "confirm")
 finding_line Continue = line (codes "continue")
 finding_line FullHandCount = line (codes "full hand count")
 
+-- What a line of a close says of a contest.
 abbrev pub outcome : Bool → List ℕ
 outcome true = codes " upheld"
 outcome false = codes " not upheld"
@@ -57,8 +59,8 @@ line_count text = count_by (λ b. nat_eq b 10) text
 
 -- What a call that reports `lines` into a buffer answers: their length, or that they do not fit.
 abbrev pub report_answer : List ℕ → List ℕ → Result ℕ Refusal
-report_answer lines buffer = cond (nat_le (length lines) (length buffer)) (Ok (length lines)) (Err ReportTooLong)
+report_answer lines buffer = if nat_le (length lines) (length buffer) then Ok (length lines) else Err ReportTooLong
 
 -- What it leaves in the buffer: the lines, and behind them what was there; or all as it was.
 abbrev pub reported : List ℕ → List ℕ → List ℕ
-reported lines buffer = cond (nat_le (length lines) (length buffer)) (lines ++ drop (length lines) buffer) buffer
+reported lines buffer = if nat_le (length lines) (length buffer) then lines ++ drop (length lines) buffer else buffer

@@ -1,17 +1,20 @@
--- What the printed lines of a verdict tell.
-use Rattle.std.specs.Prelude.{◌≡◌, ◌^◌, ◌<◌, ◌≤◌, length}
-use Rattle.std.specs.List.{AllByRecursion}
-use Rattle.verdict.specs.Contests.{contest_risks}
+-- What the printed lines of an answer tell.
+use Rattle.std.specs.Prelude.{◌≡◌, ◌^◌, ◌<◌, All}
+use Rattle.verdict.specs.Contests.{contest_risks, contests_upheld}
 use Rattle.verdict.specs.declared.Verdict.{Verdict}
-use Rattle.report.specs.Lines.{verdict_lines}
+use Rattle.verdict.specs.declared.Closing.{Closing}
+use Rattle.report.specs.Lines.{verdict_lines, closing_lines}
 
--- At most eight contests, and numbers of 16 bits.
-abbrev pub InRange : Verdict → Type 0
-InRange v = (v.contests ≤ 8) × (v.draws < 2 ^ 16) × AllByRecursion (λ r. r < 2 ^ 16) (contest_risks v)
+-- Its numbers have 16 bits, as the program's have.
+abbrev pub HasNumbersOf16Bits : Verdict → Type 0
+HasNumbersOf16Bits v = (v.draws < 2 ^ 16) × All (λ risk. risk < 2 ^ 16) (contest_risks v)
 
--- Verdicts on as many contests that print the same lines have the same risks, draws and finding.
-abbrev pub LinesTell : Verdict → Type 0
-LinesTell v =
-    (w : Verdict) → InRange v → InRange w → length (contest_risks v) ≡ length (contest_risks w)
-    → verdict_lines v ≡ verdict_lines w
+-- Verdicts that print the same lines are on as many contests, and have the same risk of each, draws and finding.
+abbrev pub VerdictLinesTell : Verdict → Type 0
+VerdictLinesTell v =
+    (w : Verdict) → HasNumbersOf16Bits v → HasNumbersOf16Bits w → verdict_lines v ≡ verdict_lines w
     → (contest_risks v ≡ contest_risks w) × (v.draws ≡ w.draws) × (v.finding ≡ w.finding)
+
+-- Closings that print the same lines are on as many contests, and uphold the same of them.
+abbrev pub ClosingLinesTell : Closing → Type 0
+ClosingLinesTell c = (d : Closing) → closing_lines c ≡ closing_lines d → contests_upheld c ≡ contests_upheld d

@@ -4,7 +4,7 @@
 ghost use Rattle.std.specs.Prelude.{◌≡◌, ℕ, ◌+◌, ◌*◌, ◌≤◌, List, length, min};
 ghost use Rattle.arrayvec.specs.ArrayString.{array_string_len};
 ghost use Rattle.report.specs.Lines.{closing_lines, draws_line, finding_line, line_count, numbered, outcome_line, report_answer, reported, risk_line, verdict_lines, Writes};
-ghost use Rattle.report.specs.Told.{LinesTell};
+ghost use Rattle.report.specs.Told.{ClosingLinesTell, VerdictLinesTell};
 
 use arrayvec::ArrayString;
 use itoa::Buffer;
@@ -83,10 +83,11 @@ fn each_line<T: Copy, F: Fn(u8, T) -> Line>(items: &[T], line: F) -> Text
 }
 
 /// The lines of a verdict. Contests above 8 count as 8.
-#[tactic(auto, using(crate::proofs::Counts::verdict_count))]
+#[tactic(auto, using(crate::proofs::Counts::verdict_count, crate::proofs::Telling::verdict_lines_tell))]
 pub fn verdict_text(verdict: &Verdict) -> Text
     ensures text { result.bytes ≡ verdict_lines verdict.now }
     ensures lines { line_count (verdict_lines verdict.now) ≡ min verdict.now.contests 8 + 2 }
+    ensures tells { VerdictLinesTell verdict.now }
 {
     let mut text = each_line(verdict.contest_risks(), risk_line);
     text.push_str(draws_line(verdict.draws).as_str());
@@ -95,10 +96,11 @@ pub fn verdict_text(verdict: &Verdict) -> Text
 }
 
 /// The lines of a closed hand count. Contests above 8 count as 8.
-#[tactic(auto, using(crate::proofs::Counts::closing_count))]
+#[tactic(auto, using(crate::proofs::Counts::closing_count, crate::proofs::Telling::closing_lines_tell))]
 pub fn closing_text(closing: &Closing) -> Text
     ensures text { result.bytes ≡ closing_lines closing.now }
     ensures lines { line_count (closing_lines closing.now) ≡ min closing.now.contests 8 }
+    ensures tells { ClosingLinesTell closing.now }
 {
     each_line(closing.contests_upheld(), outcome_line)
 }
@@ -118,12 +120,11 @@ fn print(text: &str, out: &mut [u8]) -> Result<usize, Refusal>
 
 /// The lines of a verdict to the front of `out`, or nothing where they do not fit; how many bytes
 /// they have. Contests above 8 count as 8.
-#[tactic(auto, using(crate::proofs::Telling::lines_tell))]
 pub fn report_verdict(verdict: &Verdict, out: &mut [u8]) -> Result<usize, Refusal>
     ensures answer { result ≡ report_answer (verdict_lines verdict.now) out.old }
     ensures out { out.new ≡ reported (verdict_lines verdict.now) out.old }
     ensures lines { line_count (verdict_lines verdict.now) ≡ min verdict.now.contests 8 + 2 }
-    ensures tells { LinesTell verdict.now }
+    ensures tells { VerdictLinesTell verdict.now }
 {
     print(verdict_text(verdict).as_str(), out)
 }
@@ -134,6 +135,7 @@ pub fn report_closing(closing: &Closing, out: &mut [u8]) -> Result<usize, Refusa
     ensures answer { result ≡ report_answer (closing_lines closing.now) out.old }
     ensures out { out.new ≡ reported (closing_lines closing.now) out.old }
     ensures lines { line_count (closing_lines closing.now) ≡ min closing.now.contests 8 }
+    ensures tells { ClosingLinesTell closing.now }
 {
     print(closing_text(closing).as_str(), out)
 }
