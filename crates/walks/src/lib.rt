@@ -83,10 +83,7 @@ pub fn enter_from<A: Assorter + Copy, P: Policy + Copy>(
 }
 
 /// Each record takes the card of the hand count.
-pub fn count_each<A: Assorter + Copy, P: Policy + Copy>(
-    records: &mut [Record<A, P>],
-    card: Option<&Card>,
-)
+pub fn count_each<A: Assorter, P: Policy>(records: &mut [Record<A, P>], card: Option<&Card>)
     ensures { map (account P.state) records.new ≡ map (after_count (rules_of A.Assorter P.Policy) (as_found (option_copied card.entry))) (map (account P.state) records.old) }
 {
     for held in records {
