@@ -12,15 +12,15 @@ after bet half (v ∷ vs) x = after bet half vs (played (λ _. bet) (λ s _. s) 
 abbrev pub from_start : ℕ → ℕ → List ℕ → Account ℕ ℕ
 from_start bet half vs = after bet half vs (opened 0 0)
 
--- A pair has half 1; a win has the value 2, and a loss or a missing card 0.
+-- A pair has half 1; a win has the value 2, and a loss 0.
 pub record WorkedWealth : Type 0 where
   pub win : (from_start 200 1 (2 ∷ [])).wealth ≡ 1200000000
   pub win_risk : risk_of (from_start 200 1 (2 ∷ [])).peak ≡ 834
   pub win_loss : (from_start 200 1 (2 ∷ 0 ∷ [])).wealth ≡ 960000000
   pub win_loss_peak : (from_start 200 1 (2 ∷ 0 ∷ [])).peak ≡ 1200000000
   pub win_loss_risk : risk_of (from_start 200 1 (2 ∷ 0 ∷ [])).peak ≡ 834
-  pub missing : (from_start 200 1 (0 ∷ [])).wealth ≡ 800000000
-  pub missing_risk : risk_of (from_start 200 1 (0 ∷ [])).peak ≡ 1000
+  pub loss : (from_start 200 1 (0 ∷ [])).wealth ≡ 800000000
+  pub loss_risk : risk_of (from_start 200 1 (0 ∷ [])).peak ≡ 1000
   pub seven_wins : wealth_after 7 200 1 2 ≡ 8
   pub seven_loses : wealth_after 7 200 1 0 ≡ 6
   pub four_wins : wealth_after 4 200 1 2 ≡ 4

@@ -19,8 +19,8 @@ use Rattle.calls.specs.declared.states.HandCount.{HandCount}
 use Rattle.calls.specs.Shapes.{OnlyFirst}
 
 -- The refusal, if there is one.
-abbrev pub refusal_in : Result Unit Refusal → Option Refusal
-refusal_in (Ok done) = None
+abbrev pub refusal_in : {Y : Type 0} → Result Y Refusal → Option Refusal
+refusal_in (Ok y) = None
 refusal_in (Err e) = Some e
 
 -- The answers of the calls in the words of the course.

@@ -1,6 +1,6 @@
-use Rattle.std.proofs.Common.{map, get_or, option_copied, ap, ◌∙◌, arith}
+use Rattle.std.proofs.Common.{map, get_or, option_copied, ◌∙◌, arith}
 use lib.ListN.{length-map}
-use Rattle.betting.specs.Accounts.{account, tallied}
+use Rattle.betting.specs.Accounts.{account}
 use Rattle.course.specs.Course.{after_count, rules_of}
 use Rattle.walks.specs.Walks.{as_found}
 use Rattle.walks.proofs.Fronts.{front_more}
@@ -16,4 +16,4 @@ loop-held-preserved g c =
     let worth = c.shown_value-value.ensures.is ∙ seen_worth R card r.assorter in
     front_more m (after_count R (as_found card)) c.loop-held.held-index c.loop-held.held-items (map m c.args.records.now)
     c.held-item.result c.add_to_tally.new.self (omega arith) (omega (arith, length-map c.args.records.now m))
-    c.loop-held.invariant (c.add_to_tally.ensures ∙ ap (λ v. tallied v (m r)) worth)
+    c.loop-held.invariant (grind (arith, worth, c.add_to_tally.ensures))

@@ -1,5 +1,6 @@
 use Rattle.std.proofs.Common.{◌+◌, ◌≤◌, map, length, ap, ◌∙◌, arith}
 use Rattle.std.proofs.lemmas.Grind.{common_steps}
+use Rattle.std.proofs.lemmas.List.{take-map}
 use Rattle.betting.specs.Accounts.{account}
 use Rattle.course.specs.Course.{answered, rules_of, unless_refused}
 use Rattle.course.specs.Course.Call.{entry}
@@ -18,7 +19,8 @@ returns-clause-course g c =
     let m = account {A = g.row.A.Denot} g.P.Policy.state in
     let rs = c.args.records.now in
     let lent : a.terms.needed ≤ length rs = grind (arith, common_steps) in
+    let settled = rw take-map at c.in_ok-first.ensures.before in
     ap (λ xs. (record { accounts = xs; drawn = a.drawn + 1; counted = 0 }, taken))
-    (entry_moved R e _ c.found_card.ensures m a.terms.needed rs c.enter_each.new.records lent c.enter_each.auto.records
-    t.limit (c.enter_each.ensures.rules a.terms.ranges.0))
-    ∙ ap (λ o. unless_refused o (audit_state a (map m rs)) (answered R t (audit_state a (map m rs)) (entry e))) c.in_ok-check_entry.ensures
+    (entry_moved R e _ c.found_card.ensures m a.terms.needed rs c.enter_from.new.records lent c.enter_from.auto.records
+    t.limit (c.enter_from.ensures.rules a.terms.ranges.0 settled))
+    ∙ ap (λ o. unless_refused o (audit_state a (map m rs)) (answered R t (audit_state a (map m rs)) (entry e))) c.in_ok-first.ensures.refuses
