@@ -2,5 +2,6 @@ pub mod Fits
 pub mod Moves
 pub mod Parts
 pub mod Refusals
+pub mod Verdicts
 pub mod Plans
 pub mod Openings

@@ -1,5 +1,5 @@
 -- What each call of an audit answers and leaves, by the audit's course.
-use Rattle.std.specs.Prelude.{◌≡◌, ℕ, ◌≤◌, false, cond, List, [], ◌∷◌, map, take, Some, None, Ok, Err, sum, Option, Result, nat_lt}
+use Rattle.std.specs.Prelude.{◌≡◌, ℕ, ◌≤◌, cond, List, [], ◌∷◌, map, take, Some, None, Ok, Err, sum, Option, Result, nat_lt}
 use Rattle.std.specs.List.{AllByRecursion}
 use Rattle.refusal.specs.declared.Refusal.{Refusal}
 use Rattle.refusal.specs.declared.Refusal.TheVariants.{NoRoom}
@@ -7,34 +7,18 @@ use Rattle.betting.specs.Accounts.{Account}
 use Rattle.assorter.specs.Law.{JustWhen}
 use Rattle.verdict.specs.declared.Finding.TheVariants.{Confirm}
 use Rattle.verdict.specs.declared.Verdict.{Verdict}
-use Rattle.verdict.specs.declared.Closing.{Closing}
-use Rattle.verdict.specs.Contests.{contest_risks, contests_upheld}
+use Rattle.verdict.specs.Contests.{contest_risks}
 use Rattle.course.specs.Terms.{Terms}
 use Rattle.course.specs.Course.{Rules, State, Call, Answer, answered, course, refusal_of, unless_refused}
-use Rattle.course.specs.Course.Answer.{refused, taken, finding, upheld}
 use Rattle.course.specs.Bounds.{Opened}
 use Rattle.course.specs.Laws.{left_by, taken_entries}
 use Rattle.calls.specs.declared.states.Audit.{Audit}
 use Rattle.calls.specs.declared.states.HandCount.{HandCount}
-use Rattle.calls.specs.Shapes.{OnlyFirst}
 
 -- The refusal, if there is one.
 abbrev pub refusal_in : Result Unit Refusal → Option Refusal
 refusal_in (Ok done) = None
 refusal_in (Err e) = Some e
-
--- The answers of the calls in the words of the course.
-abbrev pub taken_or : Result Unit Refusal → Answer
-taken_or (Ok done) = taken
-taken_or (Err e) = refused e
-
-abbrev pub finding_or : Result Verdict Refusal → Answer
-finding_or (Ok v) = finding v.finding v.draws (contest_risks v)
-finding_or (Err e) = refused e
-
-abbrev pub upheld_or : Result Closing Refusal → Answer
-upheld_or (Ok c) = upheld (contests_upheld c)
-upheld_or (Err e) = refused e
 
 -- A verdict's draw count is at most the draw limit.
 abbrev pub DrawsWithin : ℕ → Result Verdict Refusal → Type 0
@@ -51,15 +35,6 @@ abbrev pub CountsEntries : {A S : Type 0} → Rules A S → Terms → State A S 
 CountsEntries R t τ (Ok v) =
     (σ : State _ _) → Opened σ → (cs : List Call) → left_by R t σ cs ≡ τ → v.draws ≡ taken_entries R t σ cs
 CountsEntries R t τ (Err e) = Unit {0}
-
--- Past the contests a verdict holds zeros and a closing upholds nothing.
-abbrev pub RisksAlone : Result Verdict Refusal → Type 0
-RisksAlone (Ok v) = OnlyFirst v.contests 0 v.risks
-RisksAlone (Err e) = Unit {0}
-
-abbrev pub UpheldAlone : Result Closing Refusal → Type 0
-UpheldAlone (Ok c) = OnlyFirst c.contests false c.upheld
-UpheldAlone (Err e) = Unit {0}
 
 -- A call with so many records lent to it.
 pub record LentCall : Type 0 where

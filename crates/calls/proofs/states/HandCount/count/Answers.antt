@@ -1,9 +1,10 @@
-use Rattle.std.proofs.Common.{◌+◌, ◌≤◌, map, length, ap, ◌∙◌, arith}
+use Rattle.std.proofs.Common.{◌+◌, ◌≤◌, map, length, Ok, ap, ◌∙◌, arith}
 use Rattle.std.proofs.lemmas.Grind.{common_steps}
 use Rattle.betting.specs.Accounts.{account}
 use Rattle.course.specs.Course.{answered, rules_of, unless_refused}
 use Rattle.course.specs.Course.Call.{hand_count}
-use Rattle.course.specs.Course.Answer.{taken}
+use Rattle.calls.specs.declared.answers.Answer.TheVariants.{Taken}
+use Rattle.calls.specs.Answers.{in_code}
 use Rattle.calls.specs.Calls.{count_state}
 use Rattle.calls.specs.Shapes.{shown_of, terms_of}
 use Rattle.calls.proofs.Moves.{count_moved}
@@ -18,7 +19,7 @@ returns-clause-course g c =
     let m = account {A = g.row.A.Denot} g.P.Policy.state in
     let rs = c.args.records.now in
     let lent : h.terms.needed ≤ length rs = grind (arith, common_steps) in
-    ap (λ xs. (record { accounts = xs; drawn = h.drawn; counted = h.counted + 1 }, taken))
+    ap (λ xs. (record { accounts = xs; drawn = h.drawn; counted = h.counted + 1 }, Ok Taken))
     (count_moved R e _ c.found_card.ensures m h.terms.needed rs c.count_each.new.records lent c.count_each.auto.records
     c.count_each.ensures)
-    ∙ ap (λ o. unless_refused o (count_state h (map m rs)) (answered R t (count_state h (map m rs)) (hand_count e))) c.in_ok-check_count.ensures
+    ∙ ap (λ o. in_code (unless_refused o (count_state h (map m rs)) (answered R t (count_state h (map m rs)) (hand_count e)))) c.in_ok-check_count.ensures
