@@ -3,5 +3,6 @@ pub mod Moves
 pub mod Parts
 pub mod Refusals
 pub mod Verdicts
+pub mod Escalations
 pub mod Plans
 pub mod Openings

@@ -6,7 +6,8 @@ ghost use Rattle.course.specs.Course.Call.{entry, verdict};
 ghost use Rattle.verdict.specs.declared.Finding.TheVariants.{Confirm, Continue, FullHandCount};
 ghost use Rattle.calls.specs.Calls.{audit_state, called, ConfirmsByRisk, CountsEntries, DrawsWithin, first_refusal, KeptOnRefusal, refusal_in};
 ghost use Rattle.calls.specs.declared.answers.Answer.TheVariants as answer;
-ghost use Rattle.calls.specs.Answers.{answer_as, in_code};
+ghost use Rattle.course.specs.Openings.{own_rules};
+ghost use Rattle.calls.specs.Answers.{answer_as, Escalated, in_code};
 ghost use Rattle.calls.specs.Shapes.{shown_of, terms_of};
 
 use crate::answers::Shown;
@@ -89,10 +90,11 @@ impl Audit {
     }
 
     /// Turns the audit into a hand count; that is always granted.
+    // The clause `course` is of the contests' own assertions, since no clause speaks of all types; with
+    // the same terms it follows for any assorters and policies, as `conduct` promises it.
     pub fn escalate(self) -> HandCount
+        ensures course { Escalated own_rules self result }
         ensures terms { result.terms ≡ self.terms }
-        ensures drawn { result.drawn ≡ self.drawn }
-        ensures counted { result.counted ≡ 0 }
     {
         HandCount {
             terms: self.terms,

@@ -11,7 +11,7 @@ use Rattle.calls.specs.Answers.{in_code}
 use Rattle.calls.specs.Calls.{called}
 use Rattle.conduct.specs.Conducts.{answers_by}
 use Rattle.calls.specs.Shapes.{terms_of}
-use Rattle.calls.proofs.Refusals.{called_step}
+use Rattle.calls.proofs.Refusals.{called_step, enough}
 
 module _ {A S : Type 0} (R : Rules A S) (t : Terms) (σ₀ : State A S) (cs : List Call) where
   -- after i calls the audit is at σ, and out has their answers
@@ -43,4 +43,4 @@ pub as_step :
     t ≡ t₀ → n ≡ sum (terms_of t₀).assertions → n ≤ lent → x ≡ in_code (called R (terms_of t) lent σ c) → x ≡ in_code (step R (terms_of t₀) σ c)
 as_step R t t₀ n lent σ c x same total h e =
     e ∙ ap (λ s. in_code (called R (terms_of s) lent σ c)) same
-    ∙ ap in_code (called_step R (terms_of t₀) lent σ c (subst (λ k. k ≤ lent) total h))
+    ∙ ap in_code (called_step R (terms_of t₀) lent σ c (enough (terms_of t₀) lent c (subst (λ k. k ≤ lent) total h)))
