@@ -17,8 +17,8 @@ use Rattle.calls.specs.declared.states.Audit.{Audit}
 use Rattle.calls.specs.declared.states.HandCount.{HandCount}
 
 -- The refusal, if there is one.
-abbrev pub refusal_in : Result Unit Refusal → Option Refusal
-refusal_in (Ok done) = None
+abbrev pub refusal_in : {Y : Type 0} → Result Y Refusal → Option Refusal
+refusal_in (Ok y) = None
 refusal_in (Err e) = Some e
 
 -- A verdict's draw count is at most the draw limit.

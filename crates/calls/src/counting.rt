@@ -37,7 +37,7 @@ impl HandCount {
     /// Counts the card at the next place: each record adds the card's value to its tally, 0 for a
     /// missing card. Too few records are refused first, then a bad place, found byte or mark, then a
     /// place that isn't the next; a refusal changes nothing.
-    pub fn count<A: Assorter + Copy, P: Policy + Copy>(
+    pub fn count<A: Assorter, P: Policy>(
         &mut self,
         records: &mut [Record<A, P>],
         shown: &Shown,

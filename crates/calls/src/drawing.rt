@@ -1,7 +1,7 @@
 //! The calls of an audit that draws cards.
-ghost use Rattle.std.specs.Prelude.{◌≡◌, ◌≤◌, map, length, drop, if◌then◌else◌};
+ghost use Rattle.std.specs.Prelude.{◌≡◌, ◌≤◌, map, length, take, drop, IfOk, IfSome, IsTrue, if◌then◌else◌};
 ghost use Rattle.betting.specs.Accounts.{account};
-ghost use Rattle.course.specs.Course.{no_draws_left, rules_of};
+ghost use Rattle.course.specs.Course.{all_settled, no_draws_left, rules_of};
 ghost use Rattle.course.specs.Course.Call.{entry, verdict};
 ghost use Rattle.verdict.specs.declared.Finding.TheVariants.{Confirm, Continue, FullHandCount};
 ghost use Rattle.calls.specs.Calls.{audit_state, called, ConfirmsByRisk, CountsEntries, DrawsWithin, first_refusal, KeptOnRefusal, refusal_in};
@@ -9,6 +9,7 @@ ghost use Rattle.calls.specs.declared.answers.Answer.TheVariants as answer;
 ghost use Rattle.course.specs.Openings.{own_rules};
 ghost use Rattle.calls.specs.Answers.{answer_as, Escalated, in_code};
 ghost use Rattle.calls.specs.Shapes.{shown_of, terms_of};
+ghost use Rattle.walks.specs.Walks.{settled_front};
 
 use crate::answers::Shown;
 use crate::states::{Audit, HandCount};
@@ -17,32 +18,35 @@ use assorter::Assorter;
 use betting::{Policy, Record};
 use refusal::Refusal;
 use verdict::{Finding, Verdict};
-use walks::{each_settled, enter_each};
+use walks::{each_settled, enter_from, first_unsettled};
 
 impl Audit {
-    /// Whether no assertion wants a draw, or the draws are spent, by its own records.
-    fn is_spent<A, P: Policy>(&self, own: &[Record<A, P>]) -> bool
+    /// The first of its own records that wants a draw; none where none does, or the draws are spent.
+    fn first_to_draw<A, P: Policy>(&self, own: &[Record<A, P>]) -> Option<usize>
         requires { length own.now ≤ self.now.terms.needed }
-        ensures { result ≡ no_draws_left (terms_of self.now.terms) (audit_state self.now (map (account P.state) own.now)) }
+        ensures told { let xs = map (account P.state) own.now in result ≡ (if no_draws_left (terms_of self.now.terms) (audit_state self.now xs) then None else Some (settled_front self.now.terms.risk_limit xs)) }
+        ensures before { IfSome result (λ first. IsTrue (all_settled self.now.terms.risk_limit (take first (map (account P.state) own.now)))) }
     {
         let terms = &self.terms;
-        each_settled(own, terms.risk_limit) || self.drawn >= terms.draw_limit
+        if self.drawn >= terms.draw_limit {
+            return None;
+        }
+        first_unsettled(own, terms.risk_limit)
     }
 
-    /// Refuses an entry with its first refusal.
+    /// Refuses an entry with its first refusal; else answers which record the walk begins with: those
+    /// before it are settled.
     fn check_entry<A, P: Policy>(
         &self,
         records: &[Record<A, P>],
         shown: &Shown,
-    ) -> Result<(), Refusal>
-        ensures { refusal_in result ≡ first_refusal (terms_of self.now.terms) (length records.now) (audit_state self.now (map (account P.state) records.now)) (entry (shown_of shown.now)) }
+    ) -> Result<usize, Refusal>
+        ensures refuses { refusal_in result ≡ first_refusal (terms_of self.now.terms) (length records.now) (audit_state self.now (map (account P.state) records.now)) (entry (shown_of shown.now)) }
+        ensures before { IfOk result (λ first. IsTrue (all_settled self.now.terms.risk_limit (take first (audit_state self.now (map (account P.state) records.now)).accounts))) }
     {
         let own = self.terms.own(records)?;
         check_shown(&self.terms, shown)?;
-        if self.is_spent(own) {
-            return Err(Refusal::NoDrawsLeft);
-        }
-        Ok(())
+        self.first_to_draw(own).ok_or(Refusal::NoDrawsLeft)
     }
 
     /// Enters a card that was drawn: each record that isn't settled takes the card's value, 0 for a
@@ -58,10 +62,10 @@ impl Audit {
         ensures beyond { drop self.old.terms.needed records.new ≡ drop self.old.terms.needed records.old }
         ensures kept { (KeptOnRefusal result self.old self.new) × (KeptOnRefusal result records.old records.new) }
     {
-        self.check_entry(records, shown)?;
+        let first = self.check_entry(records, shown)?;
         let terms = &self.terms;
         let own = &mut records[..terms.needed];
-        enter_each(own, terms.risk_limit, shown.found_card());
+        enter_from(own, first, terms.risk_limit, shown.found_card());
         self.drawn += 1;
         Ok(())
     }

@@ -1,3 +1,4 @@
 pub mod Fronts
 pub mod Risks
+pub mod Settled
 pub mod Tests

@@ -1,7 +1,9 @@
 -- A card that is shown to the records, and what it does to one of them.
 use Rattle.std.specs.Prelude.{ℕ, List, ◌++◌, map, take, drop, Some, None, Option}
+use Rattle.std.specs.List.{prefix_len}
 use Rattle.ballot.specs.declared.Card.{Card}
 use Rattle.betting.specs.Accounts.{Account, cut}
+use Rattle.betting.specs.Sums.{settled}
 use Rattle.course.specs.Terms.{Shown, blank_card}
 use Rattle.course.specs.Course.{Rules, after_entry}
 
@@ -14,6 +16,10 @@ as_found None = record { place = 0; found = 0; card = blank_card }
 abbrev pub seen : {A : Type 0} → (A → Card → ℕ) → Option Card → A → ℕ
 seen worth (Some x) a = worth a x
 seen worth None a = 0
+
+-- How many accounts in front are settled at the risk limit.
+abbrev pub settled_front : {A S : Type 0} → ℕ → List (Account A S) → ℕ
+settled_front limit xs = prefix_len (λ x. settled x.peak limit) xs
 
 -- The first n of a list by f, the others as they are.
 abbrev pub on_front : {X : Type 0} → (X → X) → ℕ → List X → List X

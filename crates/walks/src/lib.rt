@@ -1,14 +1,23 @@
 //! Walks over the records of an audit: what an entry and a count do to each, and what all of them tell.
 #![tactic(auto)]
 
-ghost use Rattle.std.specs.Prelude.{◌≡◌, ◌≤◌, map, option_copied};
+ghost use Rattle.std.specs.Prelude.{◌≡◌, ◌≤◌, ◌++◌, map, take, drop, option_copied, IfSome, IsTrue, if◌then◌else◌};
 ghost use Rattle.course.specs.Course.{after_count, after_entry, all_above, all_settled, rules_of, worst_risk};
 ghost use Rattle.betting.specs.Accounts.{account};
-ghost use Rattle.walks.specs.Walks.{as_found, entered, seen};
+ghost use Rattle.walks.specs.Walks.{as_found, entered, seen, settled_front};
 
 use assorter::Assorter;
 use ballot::Card;
 use betting::{Policy, Record, play};
+
+/// The place of the first assertion that needs more draws at the risk limit, counted from 0; none
+/// where no assertion does.
+pub fn first_unsettled<A, P: Policy>(records: &[Record<A, P>], limit: u16) -> Option<usize>
+    ensures is { let xs = map (account P.state) records.now in result ≡ (if all_settled limit xs then None else Some (settled_front limit xs)) }
+    ensures before { IfSome result (λ first. IsTrue (all_settled limit (take first (map (account P.state) records.now)))) }
+{
+    records.iter().position(|held| !held.is_settled(limit))
+}
 
 /// Whether no assertion needs more draws at the risk limit.
 pub fn each_settled<A, P: Policy>(records: &[Record<A, P>], limit: u16) -> bool
@@ -43,9 +52,8 @@ fn enter_one<A: Assorter + Copy, P: Policy + Copy>(
     play(held, half, value, limit);
 }
 
-/// Each record takes the card that is drawn. At a risk limit below 10, which no audit has, wealth
-/// and peak are cut where a record's end.
-pub fn enter_each<A: Assorter + Copy, P: Policy + Copy>(
+/// Each record takes the card that is drawn.
+fn enter_each<A: Assorter + Copy, P: Policy + Copy>(
     records: &mut [Record<A, P>],
     limit: u16,
     card: Option<&Card>,
@@ -58,11 +66,24 @@ pub fn enter_each<A: Assorter + Copy, P: Policy + Copy>(
     }
 }
 
-/// Each record takes the card of the hand count.
-pub fn count_each<A: Assorter + Copy, P: Policy + Copy>(
+/// The records from this place on take the card that is drawn; where those before it are settled, it
+/// is what an entry does to all of them. At a risk limit below 10, which no audit has, wealth and
+/// peak are cut where a record's end.
+pub fn enter_from<A: Assorter + Copy, P: Policy + Copy>(
     records: &mut [Record<A, P>],
+    first: usize,
+    limit: u16,
     card: Option<&Card>,
 )
+    ensures moves { let xs = map (account P.state) records.old in map (account P.state) records.new ≡ take first xs ++ map (entered (rules_of A.Assorter P.Policy) limit (as_found (option_copied card.entry))) (drop first xs) }
+    ensures rules { let xs = map (account P.state) records.old in 10 ≤ limit → IsTrue (all_settled limit (take first xs)) → map (account P.state) records.new ≡ map (after_entry (rules_of A.Assorter P.Policy) limit (as_found (option_copied card.entry))) xs }
+{
+    let first = first.min(records.len());
+    enter_each(&mut records[first..], limit, card);
+}
+
+/// Each record takes the card of the hand count.
+pub fn count_each<A: Assorter, P: Policy>(records: &mut [Record<A, P>], card: Option<&Card>)
     ensures { map (account P.state) records.new ≡ map (after_count (rules_of A.Assorter P.Policy) (as_found (option_copied card.entry))) (map (account P.state) records.old) }
 {
     for held in records {
