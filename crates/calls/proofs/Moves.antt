@@ -28,10 +28,12 @@ module _ {A S : Type 0} (R : Rules A S) where
 
     module _ {Z : Type 0} (m : Z → Account A S) (n : ℕ) (rs ys : List Z) (enough : n ≤ length rs) (long : length ys ≡ length (take n rs)) where
       pub entry_moved :
-          (limit : ℕ) → map m ys ≡ map (after_entry R limit (as_found o)) (map m (take n rs)) →
+          (held limit : ℕ) → held ≡ limit → 10 ≤ limit →
+          (10 ≤ held → map m ys ≡ map (after_entry R held (as_found o)) (map m (take n rs))) →
           take n (map m (ys ++ drop n rs)) ≡ map (after_entry R limit e) (take n (map m rs))
-      entry_moved limit new =
-          front_of m n rs ys enough long (after_entry R limit (as_found o)) new
+      entry_moved held limit same low new =
+          front_of m n rs ys enough long (after_entry R held (as_found o)) (new (omega arith))
+          ∙ ap (λ k. map (after_entry R k (as_found o)) (take n (map m rs))) same
           ∙ (λ i. map (λ x. played R.bet R.told (R.half x.assorter) (alike x.assorter i) limit x) (take n (map m rs)))
 
       pub count_moved :

@@ -1,21 +1,25 @@
 -- As many records are lent as are needed.
-use Rattle.std.proofs.Common.{◌≡◌, ℕ, ◌≤◌, cond, ltb, [], ◌∷◌, Some, sum, sym, refl, ap, ◌∙◌}
+use Rattle.std.proofs.Common.{◌≡◌, ℕ, ◌≤◌, cond, [], ◌∷◌, Some, sum, refl, ap, ◌∙◌, arith}
 use Rattle.std.proofs.lemmas.Bool.{le-ltb}
 use Rattle.refusal.specs.declared.Refusal.TheVariants.{NoRoom}
 use Rattle.course.specs.Terms.{Terms}
+use Rattle.course.specs.Course.Call.{entry, verdict, escalation, hand_count, closing}
 use Rattle.course.specs.Course.{Rules, State, Call, answered, refusal_of, step, unless_refused}
-use Rattle.calls.specs.Calls.{FollowsCourse, all_called, called}
+use Rattle.calls.specs.Calls.{FollowsCourse, all_called, called, records_for}
 
--- n records are needed, and there are as many
-pub enough : {X : Type 0} (n needed lent : ℕ) (few x : X) → n ≡ needed → n ≤ lent → cond (ltb lent needed) few x ≡ x
-enough n needed lent few x same h = ap (λ k. cond (ltb lent k) few x) (sym same) ∙ ap (λ b. cond b few x) (le-ltb lent n h)
+-- a record for each assertion is as many as any call needs
+pub enough : (t : Terms) (lent : ℕ) (c : Call) → sum t.assertions ≤ lent → records_for t c ≤ lent
+enough t lent escalation h = omega arith
+enough t lent (entry e) h = h
+enough t lent verdict h = h
+enough t lent (hand_count e) h = h
+enough t lent closing h = h
 
 module _ {A S : Type 0} (R : Rules A S) (t : Terms) where
   -- so a call is a step of the course
-  pub called_step : (lent : ℕ) (σ : State A S) (c : Call) → sum t.assertions ≤ lent → called R t lent σ c ≡ step R t σ c
+  pub called_step : (lent : ℕ) (σ : State A S) (c : Call) → records_for t c ≤ lent → called R t lent σ c ≡ step R t σ c
   called_step lent σ c h =
-      ap (λ o. unless_refused o σ (answered R t σ c))
-      (enough (sum t.assertions) (sum t.assertions) lent (Some NoRoom) (refusal_of t σ c) refl h)
+      ap (λ b. unless_refused (cond b (Some NoRoom) (refusal_of t σ c)) σ (answered R t σ c)) (le-ltb lent (records_for t c) h)
 
   pub follows_course : (σ : State A S) → FollowsCourse R t σ
   follows_course σ [] h = refl

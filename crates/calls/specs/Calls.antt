@@ -1,5 +1,5 @@
 -- What each call of an audit answers and leaves, by the audit's course.
-use Rattle.std.specs.Prelude.{◌≡◌, ℕ, ◌≤◌, false, cond, List, [], ◌∷◌, map, take, Some, None, Ok, Err, sum, Option, Result, nat_lt}
+use Rattle.std.specs.Prelude.{◌≡◌, ℕ, ◌≤◌, List, [], ◌∷◌, map, take, Some, None, Ok, Err, sum, Option, Result, if◌then◌else◌, nat_lt}
 use Rattle.std.specs.List.{AllByRecursion}
 use Rattle.refusal.specs.declared.Refusal.{Refusal}
 use Rattle.refusal.specs.declared.Refusal.TheVariants.{NoRoom}
@@ -7,34 +7,19 @@ use Rattle.betting.specs.Accounts.{Account}
 use Rattle.assorter.specs.Law.{JustWhen}
 use Rattle.verdict.specs.declared.Finding.TheVariants.{Confirm}
 use Rattle.verdict.specs.declared.Verdict.{Verdict}
-use Rattle.verdict.specs.declared.Closing.{Closing}
-use Rattle.verdict.specs.Contests.{contest_risks, contests_upheld}
+use Rattle.verdict.specs.Contests.{contest_risks}
 use Rattle.course.specs.Terms.{Terms}
 use Rattle.course.specs.Course.{Rules, State, Call, Answer, answered, course, refusal_of, unless_refused}
-use Rattle.course.specs.Course.Answer.{refused, taken, finding, upheld}
+use Rattle.course.specs.Course.Call.{escalation}
 use Rattle.course.specs.Bounds.{Opened}
 use Rattle.course.specs.Laws.{left_by, taken_entries}
 use Rattle.calls.specs.declared.states.Audit.{Audit}
 use Rattle.calls.specs.declared.states.HandCount.{HandCount}
-use Rattle.calls.specs.Shapes.{OnlyFirst}
 
 -- The refusal, if there is one.
 abbrev pub refusal_in : {Y : Type 0} → Result Y Refusal → Option Refusal
 refusal_in (Ok y) = None
 refusal_in (Err e) = Some e
-
--- The answers of the calls in the words of the course.
-abbrev pub taken_or : Result Unit Refusal → Answer
-taken_or (Ok done) = taken
-taken_or (Err e) = refused e
-
-abbrev pub finding_or : Result Verdict Refusal → Answer
-finding_or (Ok v) = finding v.finding v.draws (contest_risks v)
-finding_or (Err e) = refused e
-
-abbrev pub upheld_or : Result Closing Refusal → Answer
-upheld_or (Ok c) = upheld (contests_upheld c)
-upheld_or (Err e) = refused e
 
 -- A verdict's draw count is at most the draw limit.
 abbrev pub DrawsWithin : ℕ → Result Verdict Refusal → Type 0
@@ -52,14 +37,10 @@ CountsEntries R t τ (Ok v) =
     (σ : State _ _) → Opened σ → (cs : List Call) → left_by R t σ cs ≡ τ → v.draws ≡ taken_entries R t σ cs
 CountsEntries R t τ (Err e) = Unit {0}
 
--- Past the contests a verdict holds zeros and a closing upholds nothing.
-abbrev pub RisksAlone : Result Verdict Refusal → Type 0
-RisksAlone (Ok v) = OnlyFirst v.contests 0 v.risks
-RisksAlone (Err e) = Unit {0}
-
-abbrev pub UpheldAlone : Result Closing Refusal → Type 0
-UpheldAlone (Ok c) = OnlyFirst c.contests false c.upheld
-UpheldAlone (Err e) = Unit {0}
+-- How many records a call needs: one for each assertion, and none for an escalation.
+abbrev pub records_for : Terms → Call → ℕ
+records_for t escalation = 0
+records_for t _ = sum t.assertions
 
 -- A call with so many records lent to it.
 pub record LentCall : Type 0 where
@@ -76,7 +57,7 @@ module _ {A S : Type 0} where
 
   -- The first refusal of a call with so many records lent: too few come first.
   abbrev pub first_refusal : Terms → ℕ → State A S → Call → Option Refusal
-  first_refusal t lent σ c = cond (nat_lt lent (sum t.assertions)) (Some NoRoom) (refusal_of t σ c)
+  first_refusal t lent σ c = if nat_lt lent (records_for t c) then Some NoRoom else refusal_of t σ c
 
   -- What the call leaves and answers.
   abbrev pub called : Rules A S → Terms → ℕ → State A S → Call → State A S × Answer
@@ -87,11 +68,11 @@ module _ {A S : Type 0} where
   all_called R t σ [] = []
   all_called R t σ (x ∷ xs) = called R t x.lent σ x.call ∷ all_called R t (called R t x.lent σ x.call).0 xs
 
-  -- Whatever the calls are and show, where a record for each assertion is lent to each of them: what they leave and
-  -- answer, one by one, is what the course has.
+  -- Whatever the calls are and show, where the records that it needs are lent to each of them: what they leave and answer,
+  -- one by one, is what the course has.
   abbrev pub FollowsCourse : Rules A S → Terms → State A S → Type 0
   FollowsCourse R t σ =
-      (xs : List LentCall) → AllByRecursion (λ x. sum t.assertions ≤ x.lent) xs →
+      (xs : List LentCall) → AllByRecursion (λ x. records_for t x.call ≤ x.lent) xs →
       all_called R t σ xs ≡ course R t σ (map (λ x. x.call) xs)
 
 -- A refusal leaves all as it was.

@@ -1,5 +1,5 @@
 -- The code's terms, cards and lists in the words of an audit's course.
-use Rattle.std.specs.Prelude.{◌≡◌, ◌==◌, ℕ, List, map, drop, replicate, Some, None, Option, if◌then◌else◌}
+use Rattle.std.specs.Prelude.{◌==◌, ℕ, map, Some, None, Option, if◌then◌else◌}
 use Rattle.ballot.specs.declared.Card.{Card}
 use Rattle.course.specs.Terms as course
 use Rattle.calls.specs.declared.answers.Shown.{Shown}
@@ -23,7 +23,3 @@ shown_of x = shown x.place x.found x.card
 -- The card, where it is not missing.
 abbrev pub found_card : course.Shown → Option Card
 found_card e = if e.found == 0 then None else Some e.card
-
--- Of eight places only the first n are used; the others hold x.
-abbrev pub OnlyFirst : {X : Type 0} → ℕ → X → List X → Type 0
-OnlyFirst n x xs = drop n xs ≡ drop n (replicate 8 x)

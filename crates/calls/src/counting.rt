@@ -3,7 +3,9 @@ ghost use Rattle.std.specs.Prelude.{◌≡◌, map, length, drop};
 ghost use Rattle.betting.specs.Accounts.{account};
 ghost use Rattle.course.specs.Course.{rules_of};
 ghost use Rattle.course.specs.Course.Call.{closing, hand_count};
-ghost use Rattle.calls.specs.Calls.{called, count_state, first_refusal, KeptOnRefusal, refusal_in, taken_or, UpheldAlone, upheld_or};
+ghost use Rattle.calls.specs.Calls.{called, count_state, first_refusal, KeptOnRefusal, refusal_in};
+ghost use Rattle.calls.specs.declared.answers.Answer.TheVariants as answer;
+ghost use Rattle.calls.specs.Answers.{answer_as, in_code};
 ghost use Rattle.calls.specs.Shapes.{shown_of, terms_of};
 
 use crate::answers::Shown;
@@ -35,12 +37,12 @@ impl HandCount {
     /// Counts the card at the next place: each record adds the card's value to its tally, 0 for a
     /// missing card. Too few records are refused first, then a bad place, found byte or mark, then a
     /// place that isn't the next; a refusal changes nothing.
-    pub fn count<A: Assorter + Copy, P: Policy + Copy>(
+    pub fn count<A: Assorter, P: Policy>(
         &mut self,
         records: &mut [Record<A, P>],
         shown: &Shown,
     ) -> Result<(), Refusal>
-        ensures course { (count_state self.new (map (account P.state) records.new), taken_or result) ≡ called (rules_of A.Assorter P.Policy) (terms_of self.old.terms) (length records.old) (count_state self.old (map (account P.state) records.old)) (hand_count (shown_of shown.now)) }
+        ensures course { (count_state self.new (map (account P.state) records.new), answer_as (λ done. answer.Taken) result) ≡ in_code (called (rules_of A.Assorter P.Policy) (terms_of self.old.terms) (length records.old) (count_state self.old (map (account P.state) records.old)) (hand_count (shown_of shown.now))) }
         ensures terms { self.new.terms ≡ self.old.terms }
         ensures beyond { drop self.old.terms.needed records.new ≡ drop self.old.terms.needed records.old }
         ensures kept { (KeptOnRefusal result self.old self.new) × (KeptOnRefusal result records.old records.new) }
@@ -57,8 +59,7 @@ impl HandCount {
         &self,
         records: &[Record<A, P>],
     ) -> Result<Closing, Refusal>
-        ensures course { (count_state self.now (map (account P.state) records.now), upheld_or result) ≡ called (rules_of A.Assorter P.Policy) (terms_of self.now.terms) (length records.now) (count_state self.now (map (account P.state) records.now)) closing }
-        ensures rest { UpheldAlone result }
+        ensures { (count_state self.now (map (account P.state) records.now), answer_as answer.Upheld result) ≡ in_code (called (rules_of A.Assorter P.Policy) (terms_of self.now.terms) (length records.now) (count_state self.now (map (account P.state) records.now)) closing) }
     {
         let terms = &self.terms;
         let own = terms.own(records)?;

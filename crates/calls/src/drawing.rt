@@ -4,7 +4,10 @@ ghost use Rattle.betting.specs.Accounts.{account};
 ghost use Rattle.course.specs.Course.{all_settled, no_draws_left, rules_of};
 ghost use Rattle.course.specs.Course.Call.{entry, verdict};
 ghost use Rattle.verdict.specs.declared.Finding.TheVariants.{Confirm, Continue, FullHandCount};
-ghost use Rattle.calls.specs.Calls.{audit_state, called, ConfirmsByRisk, CountsEntries, DrawsWithin, finding_or, first_refusal, KeptOnRefusal, refusal_in, RisksAlone, taken_or};
+ghost use Rattle.calls.specs.Calls.{audit_state, called, ConfirmsByRisk, CountsEntries, DrawsWithin, first_refusal, KeptOnRefusal, refusal_in};
+ghost use Rattle.calls.specs.declared.answers.Answer.TheVariants as answer;
+ghost use Rattle.course.specs.Openings.{own_rules};
+ghost use Rattle.calls.specs.Answers.{answer_as, Escalated, in_code};
 ghost use Rattle.calls.specs.Shapes.{shown_of, terms_of};
 ghost use Rattle.walks.specs.Walks.{settled_front};
 
@@ -54,7 +57,7 @@ impl Audit {
         records: &mut [Record<A, P>],
         shown: &Shown,
     ) -> Result<(), Refusal>
-        ensures course { (audit_state self.new (map (account P.state) records.new), taken_or result) ≡ called (rules_of A.Assorter P.Policy) (terms_of self.old.terms) (length records.old) (audit_state self.old (map (account P.state) records.old)) (entry (shown_of shown.now)) }
+        ensures course { (audit_state self.new (map (account P.state) records.new), answer_as (λ done. answer.Taken) result) ≡ in_code (called (rules_of A.Assorter P.Policy) (terms_of self.old.terms) (length records.old) (audit_state self.old (map (account P.state) records.old)) (entry (shown_of shown.now))) }
         ensures terms { self.new.terms ≡ self.old.terms }
         ensures beyond { drop self.old.terms.needed records.new ≡ drop self.old.terms.needed records.old }
         ensures kept { (KeptOnRefusal result self.old self.new) × (KeptOnRefusal result records.old records.new) }
@@ -74,9 +77,8 @@ impl Audit {
         &self,
         records: &[Record<A, P>],
     ) -> Result<Verdict, Refusal>
-        ensures course { (audit_state self.now (map (account P.state) records.now), finding_or result) ≡ called (rules_of A.Assorter P.Policy) (terms_of self.now.terms) (length records.now) (audit_state self.now (map (account P.state) records.now)) verdict }
+        ensures course { (audit_state self.now (map (account P.state) records.now), answer_as answer.Finding result) ≡ in_code (called (rules_of A.Assorter P.Policy) (terms_of self.now.terms) (length records.now) (audit_state self.now (map (account P.state) records.now)) verdict) }
         ensures confirms { ConfirmsByRisk self.now.terms.risk_limit result }
-        ensures rest { RisksAlone result }
         ensures bounded { DrawsWithin self.now.terms.draw_limit result }
         ensures draws { CountsEntries (rules_of A.Assorter P.Policy) (terms_of self.now.terms) (audit_state self.now (map (account P.state) records.now)) result }
     {
@@ -92,10 +94,11 @@ impl Audit {
     }
 
     /// Turns the audit into a hand count; that is always granted.
+    // The clause `course` is of the contests' own assertions, since no clause speaks of all types; with
+    // the same terms it follows for any assorters and policies, as `conduct` promises it.
     pub fn escalate(self) -> HandCount
+        ensures course { Escalated own_rules self result }
         ensures terms { result.terms ≡ self.terms }
-        ensures drawn { result.drawn ≡ self.drawn }
-        ensures counted { result.counted ≡ 0 }
     {
         HandCount {
             terms: self.terms,

@@ -4,7 +4,7 @@ ghost use Rattle.betting.specs.Accounts.{Account, account};
 ghost use Rattle.course.specs.Course as course;
 ghost use Rattle.course.specs.Course.{rules_of, State};
 ghost use Rattle.calls.specs.declared.terms.Terms.{Terms};
-ghost use Rattle.calls.specs.Answers.{answer_or, count_call, draw_call};
+ghost use Rattle.calls.specs.Answers.{count_call, draw_call, in_code};
 ghost use Rattle.calls.specs.Calls.{audit_state, called, count_state, KeptOnRefusal};
 ghost use Rattle.calls.specs.Shapes.{terms_of};
 
@@ -31,7 +31,7 @@ pub trait Stage {
         records: &mut [Record<A, P>],
         call: Self::Call,
     ) -> Result<Answer, Refusal>
-        ensures course { (state _ _ self.new (map (account P.state) records.new), answer_or result) ≡ called (rules_of A.Assorter P.Policy) (terms_of (terms self.old)) (length records.old) (state _ _ self.old (map (account P.state) records.old)) (asked call) }
+        ensures course { (state _ _ self.new (map (account P.state) records.new), result) ≡ in_code (called (rules_of A.Assorter P.Policy) (terms_of (terms self.old)) (length records.old) (state _ _ self.old (map (account P.state) records.old)) (asked call)) }
         ensures terms { terms self.new ≡ terms self.old }
         ensures beyond { drop (terms self.old).needed records.new ≡ drop (terms self.old).needed records.old }
         ensures kept { (KeptOnRefusal result self.old self.new) × (KeptOnRefusal result records.old records.new) };

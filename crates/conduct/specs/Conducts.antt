@@ -5,8 +5,7 @@ use Rattle.refusal.specs.declared.Refusal.{Refusal}
 use Rattle.refusal.specs.declared.Refusal.TheVariants.{NoRoom}
 use Rattle.betting.specs.Accounts.{Account}
 use Rattle.course.specs.Terms.{Terms}
-use Rattle.course.specs.Course as course
-use Rattle.course.specs.Course.{Rules, State, Call}
+use Rattle.course.specs.Course.{Rules, State, Call, course}
 use Rattle.course.specs.Course.Call.{escalation}
 use Rattle.course.specs.Laws.{left_by}
 use Rattle.calls.specs.declared.answers.Answer.{Answer}
@@ -16,7 +15,7 @@ use Rattle.conduct.specs.declared.outcome.NotConducted.{NotConducted}
 use Rattle.calls.specs.declared.answers.Standing.{Standing}
 use Rattle.calls.specs.declared.answers.Standing.TheVariants.{Drawing, Counting}
 use Rattle.calls.specs.declared.states.Audit.{Audit}
-use Rattle.calls.specs.Answers.{answer_or, count_call, draw_call, standing_state, standing_terms}
+use Rattle.calls.specs.Answers.{code_answer, count_call, draw_call, standing_state, standing_terms}
 use Rattle.calls.specs.Calls.{audit_state}
 use Rattle.calls.specs.Shapes.{terms_of}
 
@@ -28,9 +27,9 @@ later_calls (Some hs) = escalation ∷ map count_call hs.now
 abbrev pub all_calls : List DrawCall → Option (Bor (List CountCall)) → List Call
 all_calls before later = map draw_call before ++ later_calls later
 
--- The answers of the course, one by one.
-abbrev pub answers_by : {A S : Type 0} → Rules A S → Terms → State A S → List Call → List course.Answer
-answers_by R t σ cs = map (λ x. x.1) (course.course R t σ cs)
+-- What the code answers to the calls, one by one, where the course answers them.
+abbrev pub answers_by : {A S : Type 0} → Rules A S → Terms → State A S → List Call → List (Result Answer Refusal)
+answers_by R t σ cs = map (λ x. code_answer x.1) (course R t σ cs)
 
 -- Too few records for the terms, or too few places for the answers, are refused before the first call.
 abbrev pub conduct_refusal : Terms → ℕ → ℕ → List Call → Option Refusal
@@ -43,7 +42,7 @@ not_conducted (Err x) = Some x.refusal
 module _ {A S : Type 0} (R : Rules A S) (a : Audit) (before : List (Account A S)) (cs : List Call) where
   -- The calls were answered as the course has it, and the audit stands where the course leaves it.
   pub record Conducted (standing : Standing) (after : List (Account A S)) (answers : List (Result Answer Refusal)) : Type 0 where
-    pub answered : map answer_or (take (length cs) answers) ≡ answers_by R (terms_of a.terms) (audit_state a before) cs
+    pub answered : take (length cs) answers ≡ answers_by R (terms_of a.terms) (audit_state a before) cs
     pub left : standing_state standing after ≡ left_by R (terms_of a.terms) (audit_state a before) cs
     pub same_terms : standing_terms standing ≡ a.terms
 

@@ -5,7 +5,7 @@ ghost use Rattle.course.specs.Course.{rules_of};
 ghost use Rattle.course.specs.Course.Call.{escalation};
 ghost use Rattle.course.specs.Laws.{left_by};
 ghost use Rattle.course.specs.Promise.{Promised};
-ghost use Rattle.calls.specs.Answers.{answer_or, count_call};
+ghost use Rattle.calls.specs.Answers.{count_call};
 ghost use Rattle.calls.specs.Calls.{audit_state, count_state};
 ghost use Rattle.conduct.specs.Conducts.{all_calls, answers_by, conduct_refusal, Conducted, Conducts, KeptUnless, not_conducted, StandsBy, StandsIfConducted};
 ghost use Rattle.calls.specs.Shapes.{terms_of};
@@ -25,7 +25,7 @@ fn answer_all<S: Stage, A: Assorter + Copy, P: Policy + Copy>(
 )
     requires records { (S.terms stage.old).needed ≤ length records.old }
     requires places { length calls.now ≤ length answers.old }
-    ensures answers { map answer_or (take (length calls.now) answers.new) ≡ answers_by (rules_of A.Assorter P.Policy) (terms_of (S.terms stage.old)) (S.state _ _ stage.old (map (account P.state) records.old)) (map S.asked calls.now) }
+    ensures answers { take (length calls.now) answers.new ≡ answers_by (rules_of A.Assorter P.Policy) (terms_of (S.terms stage.old)) (S.state _ _ stage.old (map (account P.state) records.old)) (map S.asked calls.now) }
     ensures left { S.state _ _ stage.new (map (account P.state) records.new) ≡ left_by (rules_of A.Assorter P.Policy) (terms_of (S.terms stage.old)) (S.state _ _ stage.old (map (account P.state) records.old)) (map S.asked calls.now) }
     ensures terms { S.terms stage.new ≡ S.terms stage.old }
     ensures beyond { drop (S.terms stage.old).needed records.new ≡ drop (S.terms stage.old).needed records.old }
@@ -46,7 +46,7 @@ fn escalate_and_tally<A: Assorter + Copy, P: Policy + Copy>(
 ) -> HandCount
     requires records { audit.terms.needed ≤ length records.old }
     requires places { length calls.now < length answers.old }
-    ensures answers { map answer_or (take (length calls.now + 1) answers.new) ≡ answers_by (rules_of A.Assorter P.Policy) (terms_of audit.terms) (audit_state audit (map (account P.state) records.old)) (escalation ∷ map count_call calls.now) }
+    ensures answers { take (length calls.now + 1) answers.new ≡ answers_by (rules_of A.Assorter P.Policy) (terms_of audit.terms) (audit_state audit (map (account P.state) records.old)) (escalation ∷ map count_call calls.now) }
     ensures left { count_state result (map (account P.state) records.new) ≡ left_by (rules_of A.Assorter P.Policy) (terms_of audit.terms) (audit_state audit (map (account P.state) records.old)) (escalation ∷ map count_call calls.now) }
     ensures terms { result.terms ≡ audit.terms }
     ensures beyond { drop audit.terms.needed records.new ≡ drop audit.terms.needed records.old }

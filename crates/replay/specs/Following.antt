@@ -5,24 +5,18 @@ use Rattle.refusal.specs.declared.Refusal.{Refusal}
 use Rattle.format.specs.declared.command.Phase.{Phase}
 use Rattle.format.specs.declared.command.Phase.TheVariants as at
 use Rattle.course.specs.Terms.{Terms}
-use Rattle.course.specs.Course as course
 use Rattle.course.specs.Course.{Rules, State, Call, step}
 use Rattle.calls.specs.declared.answers.Answer.{Answer}
 use Rattle.calls.specs.declared.answers.Standing.{Standing}
 use Rattle.calls.specs.declared.answers.Standing.TheVariants.{Drawing, Counting}
 use Rattle.calls.specs.declared.answers.DrawCall.{DrawCall}
-use Rattle.calls.specs.Answers.{answer_of, draw_call}
+use Rattle.calls.specs.Answers.{draw_call, in_code}
 use Rattle.replay.specs.declared.draws.Replayed.{Replayed}
-use Rattle.replay.specs.Replays.{Accepts, StandsAt}
-
--- What is answered without a refusal is no refusal.
-abbrev pub AcceptsOr : Result Answer Refusal → Type 0
-AcceptsOr (Ok a) = Accepts (answer_of a)
-AcceptsOr (Err e) = Unit {0}
+use Rattle.replay.specs.Replays.{StandsAt}
 
 -- A call was asked, and this is what it leaves and answers.
-abbrev pub Asked : {A S : Type 0} → Rules A S → Terms → State A S → Option Call → State A S × course.Answer → Type 0
-Asked R t σ (Some c) x = x ≡ step R t σ c
+abbrev pub Asked : {A S : Type 0} → Rules A S → Terms → State A S → Option Call → State A S × Result Answer Refusal → Type 0
+Asked R t σ (Some c) x = x ≡ in_code (step R t σ c)
 Asked R t σ None x = ⊥
 
 -- A call of the drawing; none stands for the escalation.

@@ -1,7 +1,7 @@
 -- How far a draws file is followed on an audit, and with which answers.
 use Rattle.std.specs.Prelude.{◌≡◌, ℕ, ◌+◌, ◌*◌, ◌≤◌, true, ◌⊎◌, List, [], ◌∷◌, map, length, Some, None, Ok, Err, sum, Option, slice_index}
 use Rattle.std.specs.Option.{option_to_list}
-use Rattle.std.specs.List.{flat_map, AllByRecursion}
+use Rattle.std.specs.List.{flat_map}
 use Rattle.refusal.specs.declared.Fault.{Fault}
 use Rattle.refusal.specs.declared.File.TheVariants.{Draws}
 use Rattle.refusal.specs.declared.Refusal.{Refusal}
@@ -13,13 +13,14 @@ use Rattle.format.specs.Format.{Cmd, batch, terms, contest, candidate, opens, en
 use Rattle.format.specs.Counted.{begun}
 use Rattle.setup.specs.Described.{WrittenBefore}
 use Rattle.course.specs.Terms.{Terms}
-use Rattle.course.specs.Course as course
-use Rattle.course.specs.Course.{Rules, State, Call, Answer, step}
-use Rattle.course.specs.Course.Answer.{refused, taken, finding, upheld}
+use Rattle.course.specs.Course.{Rules, State, Call, course, step}
+use Rattle.course.specs.Course.Answer.{refused}
 use Rattle.course.specs.Laws.{left_by}
 use Rattle.calls.specs.declared.states.Audit.{Audit}
+use Rattle.calls.specs.declared.answers.Answer.{Answer}
 use Rattle.calls.specs.declared.answers.Standing.{Standing}
 use Rattle.calls.specs.declared.answers.Standing.TheVariants.{Drawing, Counting}
+use Rattle.calls.specs.Answers.{code_answer}
 use Rattle.calls.specs.Shapes.{shown}
 
 -- ---- commands and calls
@@ -77,23 +78,15 @@ StandsAt ph (Counting hand) = (ph ≡ at.Counting) ⊎ (ph ≡ at.Closed)
 
 -- ---- a draws file
 
--- The answer is no refusal.
-abbrev pub Accepts : Answer → Type 0
-Accepts (refused e) = ⊥
-Accepts taken = Unit {0}
-Accepts (finding f d rs) = Unit {0}
-Accepts (upheld us) = Unit {0}
-
 module _ {A S : Type 0} (R : Rules A S) (t : Terms) where
-  -- The commands of the file before the bytes rest are accepted, one by one, with these answers, and leave the audit at
-  -- this phase and in the state after.
+  -- The commands of the file before the bytes rest are accepted, one by one, with these answers, none of them a refusal,
+  -- and leave the audit at this phase and in the state after.
   pub record Followed
       (before : State A S) (file rest : List ℕ) (ph : Phase) (answers : List Answer) (after : State A S) : Type 0 where
     pub commands : List Cmd
     pub written : WrittenBefore commands file rest
     pub in_order : InOrder at.Drawing commands ph
-    pub answers_are : answers ≡ map (λ x. x.1) (course.course R t before (calls_of commands))
-    pub none_refused : AllByRecursion Accepts answers
+    pub answers_are : map Ok answers ≡ map (λ x. code_answer x.1) (course R t before (calls_of commands))
     pub left : after ≡ left_by R t before (calls_of commands)
 
   -- A command that is read is refused with the refusal of the call that it asks.

@@ -1,7 +1,7 @@
 //! A whole draws file.
 ghost use Rattle.std.specs.Prelude.{◌≡◌, ◌≤◌, map, length, take, drop};
 ghost use Rattle.betting.specs.Accounts.{account};
-ghost use Rattle.calls.specs.Answers.{answer_of, standing_state, standing_terms};
+ghost use Rattle.calls.specs.Answers.{standing_state, standing_terms};
 ghost use Rattle.calls.specs.Calls.{audit_state};
 ghost use Rattle.calls.specs.Shapes.{terms_of};
 ghost use Rattle.course.specs.Course.{rules_of};
@@ -56,7 +56,7 @@ fn follow_commands<A: Assorter + Copy, P: Policy + Copy>(
 ) -> Replayed
     requires room { audit.terms.needed ≤ length records.old }
     requires places { begun file.now ≤ length answers.old }
-    ensures replays { Replays (rules_of A.Assorter P.Policy) (terms_of audit.terms) (audit_state audit (map (account P.state) records.old)) file.now (map answer_of (take result.answered answers.new)) result.fault result.standing (standing_state result.standing (map (account P.state) records.new)) }
+    ensures replays { Replays (rules_of A.Assorter P.Policy) (terms_of audit.terms) (audit_state audit (map (account P.state) records.old)) file.now (take result.answered answers.new) result.fault result.standing (standing_state result.standing (map (account P.state) records.new)) }
     ensures terms { standing_terms result.standing ≡ audit.terms }
     ensures records { drop audit.terms.needed records.new ≡ drop audit.terms.needed records.old }
     ensures answers { drop result.answered answers.new ≡ drop result.answered answers.old }
@@ -103,7 +103,7 @@ pub fn replay<A: Assorter + Copy, P: Policy + Copy>(
     file: &[u8],
     answers: &mut [Answer],
 ) -> Replayed
-    ensures replays { HasRoom (terms_of audit.terms) (length records.old) file.now (length answers.old) → Replays (rules_of A.Assorter P.Policy) (terms_of audit.terms) (audit_state audit (map (account P.state) records.old)) file.now (map answer_of (take result.answered answers.new)) result.fault result.standing (standing_state result.standing (map (account P.state) records.new)) }
+    ensures replays { HasRoom (terms_of audit.terms) (length records.old) file.now (length answers.old) → Replays (rules_of A.Assorter P.Policy) (terms_of audit.terms) (audit_state audit (map (account P.state) records.old)) file.now (take result.answered answers.new) result.fault result.standing (standing_state result.standing (map (account P.state) records.new)) }
     ensures unread { (HasRoom (terms_of audit.terms) (length records.old) file.now (length answers.old) → ⊥) → Unread audit result.answered result.fault result.standing records.old records.new answers.old answers.new }
     ensures terms { standing_terms result.standing ≡ audit.terms }
     ensures beyond { (drop audit.terms.needed records.new ≡ drop audit.terms.needed records.old) × (drop result.answered answers.new ≡ drop result.answered answers.old) }

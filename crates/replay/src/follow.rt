@@ -1,7 +1,7 @@
 //! One command of a draws file.
 ghost use Rattle.std.specs.Prelude.{◌≡◌, ◌≤◌, true, map, length, drop, Some};
 ghost use Rattle.betting.specs.Accounts.{account};
-ghost use Rattle.calls.specs.Answers.{answer_or, count_call, standing_state, standing_terms};
+ghost use Rattle.calls.specs.Answers.{count_call, standing_state, standing_terms};
 ghost use Rattle.calls.specs.Calls.{KeptOnRefusal};
 ghost use Rattle.calls.specs.Shapes.{terms_of};
 ghost use Rattle.course.specs.Course.{rules_of};
@@ -71,7 +71,7 @@ pub(crate) fn follow<A: Assorter + Copy, P: Policy + Copy>(
 ) -> (Standing, Result<Answer, Refusal>)
     requires order { allowed (standing_phase standing) (code (meant command)) ≡ true }
     requires room { (standing_terms standing).needed ≤ length records.old }
-    ensures course { Asked (rules_of A.Assorter P.Policy) (terms_of (standing_terms standing)) (standing_state standing (map (account P.state) records.old)) (call_of (meant command.entry)) (standing_state result.0 (map (account P.state) records.new), answer_or result.1) }
+    ensures course { Asked (rules_of A.Assorter P.Policy) (terms_of (standing_terms standing)) (standing_state standing (map (account P.state) records.old)) (call_of (meant command.entry)) (standing_state result.0 (map (account P.state) records.new), result.1) }
     ensures stands { StandsAfter result.1 (phase_after (standing_phase standing) (meant command.entry)) result.0 }
     ensures terms { standing_terms result.0 ≡ standing_terms standing }
     ensures beyond { drop (standing_terms standing).needed records.new ≡ drop (standing_terms standing).needed records.old }

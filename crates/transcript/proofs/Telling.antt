@@ -1,20 +1,19 @@
 -- What an audit that was opened from a setup answers is told of the setup.
-use Rattle.std.proofs.Common.{◌≡◌, ℕ, List, map, take, Ok, Err, Option, Result, IfOk, refl, sym, subst}
+use Rattle.std.proofs.Common.{◌≡◌, ℕ, List, Ok, Err, Option, Result, IfOk, refl, sym, subst}
 use Rattle.refusal.specs.declared.Fault.{Fault}
 use Rattle.ballot.specs.declared.Candidate.{Candidate}
 use Rattle.ballot.specs.declared.Contest.{Contest}
 use Rattle.setup.specs.declared.setup.Setup.{Setup}
 use Rattle.assertion.specs.declared.assertions.Assertion.{Assertion}
-use Rattle.assertion.specs.Assertions.{planned}
 use Rattle.betting.specs.Accounts.{Account}
 use Rattle.betting.specs.Policies.{Chosen}
-use Rattle.course.specs.Terms.{Terms}
-use Rattle.course.specs.Course.{State, Answer}
-use Rattle.course.specs.Openings.{LimitsWrongBoards, own_rules}
+use Rattle.course.specs.Course.{State}
+use Rattle.calls.specs.declared.answers.Answer.{Answer}
+use Rattle.course.specs.Openings.{own_rules}
 use Rattle.calls.specs.declared.answers.Standing.{Standing}
 use Rattle.calls.specs.declared.states.Audit.{Audit}
 use Rattle.calls.specs.Calls.{audit_state}
-use Rattle.calls.specs.Openings.{Begun, OwnAssertions, by_claim, plan_account}
+use Rattle.calls.specs.Openings.{Begun, OwnAssertions}
 use Rattle.calls.specs.Shapes.{terms_of}
 use Rattle.replay.specs.Replays.{Replays}
 use Rattle.transcript.specs.Transcripts.{Told, transcript}
@@ -25,24 +24,18 @@ module _ (s : Setup) (xs : List Contest) (cs : List Candidate) (audit : Audit) (
       Begun own_rules s xs accounts audit → OwnAssertions s xs cs accounts audit →
       Replays own_rules (terms_of audit.terms) (audit_state audit accounts) draws answers fault standing after →
       Told s xs cs draws (transcript answers fault)
-  told draws answers fault standing after begun own replays =
-      let start = audit_state audit accounts in
-      record {
-        start = start;
-        as_planned =
-            subst (λ n. map by_claim (take n accounts) ≡ map (plan_account s.terms.policy) (planned 0 xs cs))
-            (sym begun.of_setup.needed) own.as_planned;
-        undrawn = begun.of_setup.undrawn;
-        uncounted = refl;
-        limits_wrong_boards = subst (λ (t : Terms). LimitsWrongBoards xs cs t start) begun.of_setup.terms own.limits_wrong_boards;
-        answers = answers;
-        fault = fault;
-        standing = standing;
-        after = after;
-        replays =
-            subst (λ (t : Terms). Replays own_rules t start draws answers fault standing after) begun.of_setup.terms replays;
-        text_is = refl;
-      }
+  told draws answers fault standing after begun own replays = record {
+    audit = audit;
+    accounts = accounts;
+    begun = begun;
+    own = own;
+    answers = answers;
+    fault = fault;
+    standing = standing;
+    after = after;
+    replays = replays;
+    text_is = refl;
+  }
 
 -- What holds of a text holds of a made one that is this text.
 pub if_made :

@@ -1,5 +1,5 @@
 -- The text of a whole audit.
-use Rattle.std.specs.Prelude.{◌≡◌, ℕ, List, [], ◌++◌, map, Some, None, Ok, Err, Option, Result}
+use Rattle.std.specs.Prelude.{◌≡◌, ℕ, List, [], ◌++◌, Some, None, Ok, Err, Option, Result}
 use Rattle.std.specs.List.{flat_map}
 use Rattle.refusal.specs.declared.Fault.{Fault}
 use Rattle.refusal.specs.Numbers.{fault_line}
@@ -8,26 +8,29 @@ use Rattle.ballot.specs.declared.Contest.{Contest}
 use Rattle.setup.specs.declared.setup.Setup.{Setup}
 use Rattle.setup.specs.Reading.{HeldLists, Outcome, reading}
 use Rattle.assertion.specs.declared.assertions.Assertion.{Assertion}
-use Rattle.assertion.specs.Assertions.{planned}
+use Rattle.betting.specs.Accounts.{Account}
 use Rattle.betting.specs.Policies.{Chosen}
-use Rattle.course.specs.Course.{State, Answer}
-use Rattle.course.specs.Course.Answer.{refused, taken, finding, upheld}
-use Rattle.course.specs.Openings.{own_rules, LimitsWrongBoards}
+use Rattle.course.specs.Course.{State}
+use Rattle.course.specs.Openings.{own_rules}
+use Rattle.calls.specs.declared.answers.Answer.{Answer}
+use Rattle.calls.specs.declared.answers.Answer.TheVariants.{Taken, Finding, Upheld}
 use Rattle.calls.specs.declared.answers.Standing.{Standing}
-use Rattle.calls.specs.Openings.{by_claim, plan_account, setup_terms}
+use Rattle.calls.specs.declared.states.Audit.{Audit}
+use Rattle.calls.specs.Calls.{audit_state}
+use Rattle.calls.specs.Openings.{Begun, OwnAssertions}
+use Rattle.calls.specs.Shapes.{terms_of}
 use Rattle.replay.specs.Replays.{Replays}
-use Rattle.report.specs.Lines.{draws_line, finding_line, line, numbered, outcome_line, risk_line}
+use Rattle.report.specs.Lines.{closing_lines, line, verdict_lines}
 use Rattle.intake.specs.declared.memory.Memory.{Memory}
 use Rattle.intake.specs.Memories.{Blank, empty_lists}
 
 -- ---- the lines
 
--- The lines of an answer: what is only taken, or refused, has none of its own.
+-- The lines of an answer: what is only taken has none.
 abbrev pub answer_lines : Answer → List ℕ
-answer_lines (refused e) = []
-answer_lines taken = []
-answer_lines (finding found draws risks) = numbered risk_line 1 risks ++ draws_line draws ++ finding_line found
-answer_lines (upheld contests) = numbered outcome_line 1 contests
+answer_lines Taken = []
+answer_lines (Finding v) = verdict_lines v
+answer_lines (Upheld c) = closing_lines c
 
 abbrev pub fault_lines : Option Fault → List ℕ
 fault_lines None = []
@@ -39,18 +42,18 @@ transcript answers fault = flat_map answer_lines answers ++ fault_lines fault
 
 -- ---- two files
 
--- The text tells how an audit of the setup, with the assertions of its contests and nothing drawn, answers the draws file.
+-- The text tells how an audit of the setup, just opened with the assertions of its contests, answers the draws file; and
+-- what is promised of every audit that is opened so.
 pub record Told (s : Setup) (xs : List Contest) (cs : List Candidate) (draws text : List ℕ) : Type 0 where
-  pub start : State Assertion Chosen
-  pub as_planned : map by_claim start.accounts ≡ map (plan_account s.terms.policy) (planned 0 xs cs)
-  pub undrawn : start.drawn ≡ 0
-  pub uncounted : start.counted ≡ 0
-  pub limits_wrong_boards : LimitsWrongBoards xs cs (setup_terms s xs) start
+  pub audit : Audit
+  pub accounts : List (Account Assertion Chosen)
+  pub begun : Begun own_rules s xs accounts audit
+  pub own : OwnAssertions s xs cs accounts audit
   pub answers : List Answer
   pub fault : Option Fault
   pub standing : Standing
   pub after : State Assertion Chosen
-  pub replays : Replays own_rules (setup_terms s xs) start draws answers fault standing after
+  pub replays : Replays own_rules (terms_of audit.terms) (audit_state audit accounts) draws answers fault standing after
   pub text_is : text ≡ transcript answers fault
 
 -- A refused setup has the line of its fault alone, and its draws file is not followed.

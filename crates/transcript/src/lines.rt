@@ -1,9 +1,8 @@
 //! The lines of answers and of a fault, one behind the other.
-ghost use Rattle.std.specs.Prelude.{◌≡◌, ◌++◌, map, IfOk, OnOk};
+ghost use Rattle.std.specs.Prelude.{◌≡◌, ◌++◌, IfOk, OnOk};
 ghost use Rattle.std.specs.List.{flat_map};
 ghost use Rattle.report.specs.Lines.{line};
 ghost use Rattle.refusal.specs.Numbers.{fault_line};
-ghost use Rattle.calls.specs.Answers.{answer_of};
 ghost use Rattle.transcript.specs.Transcripts.{answer_lines, transcript};
 
 use calls::Answer;
@@ -13,7 +12,7 @@ use std::alloc::{AllocError, Global};
 
 /// Appends the lines of a verdict or a close; what is only taken has none.
 fn append_answer(text: &mut Vec<u8>, answer: &Answer) -> Result<(), AllocError>
-    ensures { OnOk result (text.new.items ≡ text.old.items ++ answer_lines (answer_of answer.now)) }
+    ensures { OnOk result (text.new.items ≡ text.old.items ++ answer_lines answer.now) }
 {
     match answer {
         Answer::Finding(verdict) => text.extend_from_slice(verdict_text(verdict).as_bytes()),
@@ -24,7 +23,7 @@ fn append_answer(text: &mut Vec<u8>, answer: &Answer) -> Result<(), AllocError>
 
 /// Appends the lines of the answers, in their order.
 fn append_answers(text: &mut Vec<u8>, answers: &[Answer]) -> Result<(), AllocError>
-    ensures { OnOk result (text.new.items ≡ text.old.items ++ flat_map answer_lines (map answer_of answers.now)) }
+    ensures { OnOk result (text.new.items ≡ text.old.items ++ flat_map answer_lines answers.now) }
 {
     for answer in answers {
         append_answer(text, answer)?;
@@ -47,7 +46,7 @@ pub fn transcript(
     answers: &[Answer],
     fault: Option<Fault>,
 ) -> Result<Vec<u8>, AllocError>
-    ensures { IfOk result (λ v. v.items ≡ transcript (map answer_of answers.now) fault) }
+    ensures { IfOk result (λ v. v.items ≡ transcript answers.now fault) }
 {
     let mut text = Vec::new(alloc);
     append_answers(&mut text, answers)?;

@@ -20,7 +20,7 @@ pub enum Finding {
 // gaps takes half as long again.
 pub struct Verdict {
     pub finding: Finding,
-    /// How many contests there are; the places of `risks` beyond them say nothing.
+    /// How many contests there are; an audit leaves zeros in the places of `risks` beyond them.
     pub contests: u8,
     pub draws: u16,
     /// The risk of each contest in thousandths, the first contest's in place 0.
@@ -43,7 +43,7 @@ impl Verdict {
 /// What a full hand count found.
 #[derive(Clone, Copy, PartialEq, Eq, Debug)]
 pub struct Closing {
-    /// How many contests there are; the places of `upheld` beyond them say nothing.
+    /// How many contests there are; an audit upholds nothing in the places beyond them.
     pub contests: u8,
     /// Does the count give the reported winners? The first contest's answer is in place 0.
     // An array, as in a verdict.

@@ -4,7 +4,8 @@ ghost use Rattle.std.specs.Fn.{FnReturnsAt};
 ghost use Rattle.std.specs.List.{AllZip};
 ghost use Rattle.betting.specs.Accounts.{account};
 ghost use Rattle.course.specs.Course.{all_above, parts, rules_of, worst_risk};
-ghost use Rattle.calls.specs.Shapes.{OnlyFirst, terms_of};
+ghost use Rattle.verdict.specs.Contests.{padded};
+ghost use Rattle.calls.specs.Shapes.{terms_of};
 
 use super::{Size, Terms};
 use assorter::Assorter;
@@ -34,8 +35,7 @@ pub(crate) fn contest_risks<A, P: Policy>(
     terms: &Terms,
     records: &[Record<A, P>],
 ) -> [u16; CONTESTS]
-    ensures parts { take (length terms.now.sizes.items) result ≡ map worst_risk (parts (terms_of terms.now).assertions (map (account P.state) records.now)) }
-    ensures rest { OnlyFirst (length terms.now.sizes.items) 0 result }
+    ensures { result ≡ padded 0 (map worst_risk (parts (terms_of terms.now).assertions (map (account P.state) records.now))) }
 {
     // An array, as a verdict has it.
     let mut risks = [0; CONTESTS];
@@ -54,8 +54,7 @@ pub(crate) fn contests_above<A: Assorter, P: Policy>(
     terms: &Terms,
     records: &[Record<A, P>],
 ) -> [bool; CONTESTS]
-    ensures parts { take (length terms.now.sizes.items) result ≡ map (all_above (rules_of A.Assorter P.Policy) terms.now.cards) (parts (terms_of terms.now).assertions (map (account P.state) records.now)) }
-    ensures rest { OnlyFirst (length terms.now.sizes.items) false result }
+    ensures { result ≡ padded false (map (all_above (rules_of A.Assorter P.Policy) terms.now.cards) (parts (terms_of terms.now).assertions (map (account P.state) records.now))) }
 {
     // An array, as a closing has it.
     let mut above = [false; CONTESTS];

@@ -1,10 +1,9 @@
 use Rattle.std.proofs.Common.{◌≡◌, ◌+◌, ◌≤◌, ◌++◌, map, length, take, sym, ap, ◌∙◌, arith, rules}
-use Rattle.std.proofs.lemmas.List.{map-append}
 use Rattle.std.proofs.lemmas.Grind.{common_steps}
 use Rattle.betting.specs.Accounts.{account}
 use Rattle.course.specs.Course.{rules_of}
 use Rattle.course.specs.Laws.{left_by}
-use Rattle.calls.specs.Answers.{answer_or, draw_call}
+use Rattle.calls.specs.Answers.{draw_call}
 use Rattle.calls.specs.Calls.{audit_state}
 use Rattle.conduct.specs.Conducts.{all_calls, answers_by, later_calls}
 use Rattle.calls.specs.Shapes.{terms_of}
@@ -25,13 +24,12 @@ returns-in-Some-clause-course g c =
     let ys = c.escalate_and_tally-hand.new.answers in
     let all : length (all_calls c.args.before.now c.args.later) ≡ k + n = rw c.in-Some.is (grind (arith, common_steps)) in
     let within : k ≤ length drawn = search rules in
-    let drew : map answer_or (take k drawn) ≡ answers_by R t σ cs = search rules in
-    let tallied : map answer_or (take n ys) ≡ answers_by R t (left_by R t σ cs) ds = search rules in
+    let drew : take k drawn ≡ answers_by R t σ cs = search rules in
+    let tallied : take n ys ≡ answers_by R t (left_by R t σ cs) ds = search rules in
     record {
       answered =
-          ap (map answer_or) (take_tail k n (length (all_calls c.args.before.now c.args.later)) drawn ys within all)
-          ∙ map-append answer_or (take k drawn) (take n ys)
-          ∙ ap (λ zs. zs ++ map answer_or (take n ys)) drew ∙ ap (λ zs. answers_by R t σ cs ++ zs) tallied
+          take_tail k n (length (all_calls c.args.before.now c.args.later)) drawn ys within all
+          ∙ ap (λ zs. zs ++ take n ys) drew ∙ ap (λ zs. answers_by R t σ cs ++ zs) tallied
           ∙ sym (answers_both R t σ cs ds);
       left = (search rules) ∙ sym (left_both R t σ cs ds);
       same_terms = search rules;

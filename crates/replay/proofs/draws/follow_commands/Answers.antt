@@ -1,5 +1,5 @@
-use Rattle.std.proofs.Common.{◌≡◌, ◌+◌, ◌-◌, ◌<◌, ◌≤◌, List, [], ◌∷◌, ◌++◌, map, length, take, drop, set, Some, Ok, Result, sym, ap, ◌∙◌, subst, arith, rules}
-use Rattle.std.proofs.lemmas.List.{drop-drop, drop-set-lt, length-set, map_push, take_more_set}
+use Rattle.std.proofs.Common.{◌≡◌, ◌+◌, ◌-◌, ◌<◌, ◌≤◌, List, [], ◌∷◌, ◌++◌, map, length, take, drop, set, Some, Ok, Err, Result, sym, ap, ◌∙◌, subst, arith, rules}
+use Rattle.std.proofs.lemmas.List.{drop-drop, drop-set-lt, length-set, take_more_set}
 use Rattle.std.proofs.lemmas.Grind.{common_steps}
 use Rattle.refusal.specs.declared.File.TheVariants.{Draws}
 use Rattle.refusal.specs.declared.Refusal.{Refusal}
@@ -9,17 +9,15 @@ use Rattle.format.specs.Counted.{begun}
 use Rattle.format.specs.Format.{meant}
 use Rattle.format.proofs.Counting.{counts_each}
 use Rattle.format.proofs.Writing.{taken_as_written}
-use Rattle.course.specs.Course as course
 use Rattle.course.specs.Course.{rules_of}
-use Rattle.course.specs.Course.Answer.{refused}
 use Rattle.calls.specs.declared.answers.Answer.{Answer}
 use Rattle.calls.specs.declared.terms.Terms.{Terms}
-use Rattle.calls.specs.Answers.{answer_of, answer_or, standing_state, standing_terms}
+use Rattle.calls.specs.Answers.{standing_state, standing_terms}
 use Rattle.calls.specs.Calls.{KeptOnRefusal, audit_state}
 use Rattle.calls.specs.Shapes.{terms_of}
 use Rattle.replay.specs.Following.{Asked, StandsAfter, standing_phase}
 use Rattle.replay.specs.Replays.{Followed, Replays, StandsAt, call_of, phase_after}
-use Rattle.replay.proofs.Commands.{accepted, followed_more}
+use Rattle.replay.proofs.Commands.{followed_more}
 use Rattle.replay.proofs.Ends.{room_kept, stops_refused, taken_allowed, taken_phase}
 use Rattle.replay.proofs.draws.follow_commands.Goals as goal
 
@@ -49,22 +47,21 @@ commands-preserved g c =
     let τ = standing_state u (map f qs) in
     let start = audit_state c.args.audit (map f c.args.records.now) in
     let reads = sym c.in-Ok.ensures.value in
-    let asked : Asked R (terms_of t) σ (call_of m) (τ, answer_of a) =
-    subst (λ (r : Result Answer Refusal). Asked R (terms_of t) σ (call_of m) (τ, answer_or r)) c.in-Ok-answer.is
-    (subst (λ (x : Terms). Asked R (terms_of x) σ (call_of m) (τ, answer_or c.follow-stands.result.1)) i.terms c.follow-stands.ensures.course) in
+    let asked : Asked R (terms_of t) σ (call_of m) (τ, Ok a) =
+    subst (λ (r : Result Answer Refusal). Asked R (terms_of t) σ (call_of m) (τ, r)) c.in-Ok-answer.is
+    (subst (λ (x : Terms). Asked R (terms_of x) σ (call_of m) (τ, c.follow-stands.result.1)) i.terms c.follow-stands.ensures.course) in
     let one : begun rest ≡ 1 + begun after = counts_each rest m after (taken_as_written ph m rest after reads).0 in
     let place : k < length xs = omega (arith, one, i.within, i.places, c.requires.places) in
     let same_terms : standing_terms u ≡ t = search rules in
     let more = followed_more R (terms_of t) start σ τ c.args.file.now rest after ph
-    (map answer_of (take k xs)) m (answer_of a) i.followed reads (accepted (Ok a)) asked in
-    let told : map answer_of (take k xs) ++ (answer_of a ∷ []) ≡ map answer_of (take (k + 1) (set xs k a)) =
-    sym (ap (map answer_of) (take_more_set xs k a place) ∙ map_push answer_of (take k xs) a) in
+    (take k xs) m a i.followed reads asked in
+    let told : take k xs ++ (a ∷ []) ≡ take (k + 1) (set xs k a) = sym (take_more_set xs k a place) in
     let phase : phase_after (standing_phase s) m ≡ c.phase_after-next.result =
     ap (λ (x : Phase). phase_after x m) (sym (taken_phase ph s m rest after i.stands reads)) ∙ sym c.phase_after-next.ensures in
     record {
       followed =
-          subst (λ (ys : List course.Answer). Followed R (terms_of t) start c.args.file.now after c.phase_after-next.result ys τ) told
-          (subst (λ (x : Phase). Followed R (terms_of t) start c.args.file.now after x (map answer_of (take k xs) ++ (answer_of a ∷ [])) τ)
+          subst (λ (ys : List Answer). Followed R (terms_of t) start c.args.file.now after c.phase_after-next.result ys τ) told
+          (subst (λ (x : Phase). Followed R (terms_of t) start c.args.file.now after x (take k xs ++ (a ∷ [])) τ)
           (sym c.phase_after-next.ensures) more);
       stands =
           subst (λ (x : Phase). StandsAt x u) phase
@@ -75,7 +72,7 @@ commands-preserved g c =
           drop-set-lt (k + 1) xs k a (omega arith) ∙ sym (drop-drop 1 k xs) ∙ ap (drop 1) i.answers ∙ drop-drop 1 k c.args.answers.now;
       room =
           room_kept f t.needed s u rs qs (ap (λ (x : Terms). x.needed) i.terms) (ap (λ (x : Terms). x.needed) same_terms) i.room R (terms_of t)
-          (call_of m) (answer_of a) asked;
+          (call_of m) (Ok a) asked;
       within = omega (arith, one, i.within);
       shorter = omega (arith, i.shorter, c.in-Ok.ensures.shorter);
       places = length-set xs k a ∙ i.places;
@@ -99,13 +96,13 @@ returns-in-Err-answer-clause-replays g c =
     let τ = standing_state u (map f qs) in
     let kept : (u ≡ s) × (qs ≡ rs) =
     subst (λ (r : Result Answer Refusal). KeptOnRefusal r s u × KeptOnRefusal r rs qs) c.in-Err-answer.is c.follow-stands.ensures.kept in
-    let asked : Asked R t σ (call_of m) (τ, refused e) =
-    subst (λ (r : Result Answer Refusal). Asked R t σ (call_of m) (τ, answer_or r)) c.in-Err-answer.is
-    (subst (λ (x : Terms). Asked R (terms_of x) σ (call_of m) (τ, answer_or c.follow-stands.result.1)) i.terms c.follow-stands.ensures.course) in
+    let asked : Asked R t σ (call_of m) (τ, Err e) =
+    subst (λ (r : Result Answer Refusal). Asked R t σ (call_of m) (τ, r)) c.in-Err-answer.is
+    (subst (λ (x : Terms). Asked R (terms_of x) σ (call_of m) (τ, c.follow-stands.result.1)) i.terms c.follow-stands.ensures.course) in
     let some : 1 ≤ length rest = grind (arith, common_steps) in
     let stops = stops_refused R t σ τ file rest c.in-Ok.taken.1.now c.commands.phase m e (sym c.in-Ok.ensures.value) asked
     some i.shorter in
-    let there : Replays R t (audit_state c.args.audit (map f c.args.records.now)) file (map answer_of (take c.commands.answered c.commands.answers))
+    let there : Replays R t (audit_state c.args.audit (map f c.args.records.now)) file (take c.commands.answered c.commands.answers)
     (Some (record { refusal = e; file = Draws; offset = length file - length rest })) s σ =
     record { rest = rest; at = c.commands.phase; followed = i.followed; stands = i.stands; stops = stops } in
     rw (c.stopped-in-Err-answer.ensures, kept.0, kept.1) there

@@ -1,6 +1,6 @@
 use Rattle.std.proofs.Common.{◌≡◌, ◌+◌, ◌≤◌, map, length, take, drop}
 use Rattle.betting.specs.Accounts.{account}
-use Rattle.calls.specs.Answers.{answer_of, standing_state, standing_terms}
+use Rattle.calls.specs.Answers.{standing_state, standing_terms}
 use Rattle.calls.specs.Shapes.{terms_of}
 use Rattle.course.specs.Course.{rules_of}
 use Rattle.format.specs.Counted.{begun}
@@ -13,7 +13,7 @@ invariant-commands g l =
     let start = standing_terms l.initial.standing in
     record {
       followed : Followed (rules_of g.A.Assorter g.P.Policy) (terms_of start) (standing_state l.initial.standing (map m l.initial.records))
-          l.file l.rest l.phase (map answer_of (take l.answered l.answers)) (standing_state l.standing (map m l.records));
+          l.file l.rest l.phase (take l.answered l.answers) (standing_state l.standing (map m l.records));
       stands : StandsAt l.phase l.standing;
       terms : standing_terms l.standing ≡ start;
       records : drop start.needed l.records ≡ drop start.needed l.initial.records;

@@ -3,7 +3,7 @@ use Rattle.std.proofs.lemmas.Grind.{common_steps}
 use Rattle.std.proofs.lemmas.Bool.Decides.{nat_tests}
 use Rattle.betting.specs.Accounts.{account}
 use Rattle.betting.specs.Policies.{chosen_state}
-use Rattle.calls.specs.Answers.{answer_of, standing_state}
+use Rattle.calls.specs.Answers.{standing_state}
 use Rattle.calls.specs.Shapes.{terms_of}
 use Rattle.replay.specs.Replays.{HasRoom}
 use Rattle.transcript.specs.Transcripts.{Told, transcript}
@@ -19,7 +19,7 @@ returns c =
     let audit = c.in-Ok.audit in
     let r = c.replay-replayed in
     let accounts = map (account chosen_state) c.open.new.records in
-    let answers = map answer_of (take r.result.answered r.new.answers) in
+    let answers = take r.result.answered r.new.answers in
     let begun = c.in-Ok.ensures.begun in
     let total = audit.terms.total in
     let needed = begun.of_setup.needed in

@@ -1,9 +1,8 @@
-use Rattle.std.proofs.Common.{◌≡◌, ◌++◌, map, take}
+use Rattle.std.proofs.Common.{◌≡◌, ◌++◌, take}
 use Rattle.std.specs.List.{flat_map}
-use Rattle.calls.specs.Answers.{answer_of}
 use Rattle.transcript.specs.Transcripts.{answer_lines}
 use Rattle.transcript.proofs.lines.append_answers.Given as goal
 
 abbrev pub invariant-loop-answer : goal.invariant-loop-answer
 invariant-loop-answer l =
-    l.text.items ≡ l.initial.text.items ++ flat_map answer_lines (map answer_of (take l.answer-index l.answers))
+    l.text.items ≡ l.initial.text.items ++ flat_map answer_lines (take l.answer-index l.answers)

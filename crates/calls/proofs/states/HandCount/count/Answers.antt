@@ -1,10 +1,11 @@
-use Rattle.std.proofs.Common.{◌+◌, ◌≤◌, map, length, ap, ◌∙◌, arith}
+use Rattle.std.proofs.Common.{◌≡◌, ◌+◌, ◌≤◌, map, length, None, Ok, ap, arith}
 use Rattle.std.proofs.lemmas.Grind.{common_steps}
 use Rattle.betting.specs.Accounts.{account}
-use Rattle.course.specs.Course.{answered, rules_of, unless_refused}
+use Rattle.course.specs.Course.{after_count, answered, rules_of, unless_refused}
 use Rattle.course.specs.Course.Call.{hand_count}
-use Rattle.course.specs.Course.Answer.{taken}
-use Rattle.calls.specs.Calls.{count_state}
+use Rattle.calls.specs.declared.answers.Answer.TheVariants.{Taken}
+use Rattle.calls.specs.Answers.{in_code}
+use Rattle.calls.specs.Calls.{called, count_state, first_refusal}
 use Rattle.calls.specs.Shapes.{shown_of, terms_of}
 use Rattle.calls.proofs.Moves.{count_moved}
 use Rattle.calls.proofs.states.HandCount.count.Goals as goal
@@ -17,8 +18,13 @@ returns-clause-course g c =
     let R = rules_of g.A.Assorter g.P.Policy in
     let m = account {A = g.row.A.Denot} g.P.Policy.state in
     let rs = c.args.records.now in
+    let σ = count_state h (map m rs) in
     let lent : h.terms.needed ≤ length rs = grind (arith, common_steps) in
-    ap (λ xs. (record { accounts = xs; drawn = h.drawn; counted = h.counted + 1 }, taken))
-    (count_moved R e _ c.found_card.ensures m h.terms.needed rs c.count_each.new.records lent c.count_each.auto.records
-    c.count_each.ensures)
-    ∙ ap (λ o. unless_refused o (count_state h (map m rs)) (answered R t (count_state h (map m rs)) (hand_count e))) c.in_ok-check_count.ensures
+    let moved =
+    count_moved R e _ c.found_card.ensures m h.terms.needed rs c.count_each.new.records lent c.count_each.auto.records
+    c.count_each.ensures in
+    let granted : first_refusal t (length rs) σ (hand_count e) ≡ None = grind (arith, common_steps) in
+    let answer : in_code (called R t (length rs) σ (hand_count e))
+    ≡ (record { accounts = map (after_count R e) σ.accounts; drawn = h.drawn; counted = h.counted + 1 }, Ok Taken) =
+    ap (λ o. in_code (unless_refused o σ (answered R t σ (hand_count e)))) granted in
+    grind (arith, common_steps, moved, answer)

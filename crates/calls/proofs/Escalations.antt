@@ -1,0 +1,17 @@
+-- What an escalation leaves, by any assorters and policies.
+use Rattle.std.proofs.Common.{◌≡◌, List, [], take, ap, ◌∙◌}
+use Rattle.betting.specs.Accounts.{Account}
+use Rattle.course.specs.Openings.{own_rules}
+use Rattle.calls.specs.declared.states.Audit.{Audit}
+use Rattle.calls.specs.declared.states.HandCount.{HandCount}
+use Rattle.calls.specs.Answers.{Escalated}
+use Rattle.calls.specs.Calls.{audit_state, count_state}
+
+-- the state stays as it is, whatever the kind of accounts
+pub same_state :
+    (a : Audit) (h : HandCount) → Escalated own_rules a h → h.terms ≡ a.terms → {A S : Type 0} (xs : List (Account A S)) →
+    count_state h xs ≡ audit_state a xs
+same_state a h own same xs =
+    ap (λ t. record { accounts = take t.needed xs; drawn = h.drawn; counted = h.counted }) same
+    ∙ ap (λ n. record { accounts = take a.terms.needed xs; drawn = n; counted = h.counted }) (ap (λ x. x.0.drawn) (own 0 []))
+    ∙ ap (λ n. record { accounts = take a.terms.needed xs; drawn = a.drawn; counted = n }) (ap (λ x. x.0.counted) (own 0 []))
