@@ -12,9 +12,8 @@ use Rattle.ballot.specs.Contests.{SeatsFit}
 use Rattle.ballot.specs.Votes.{TrulyWon, gives_any, gives_vote, marks_of}
 use Rattle.ballot.specs.Winners.{Ahead, losers, winners, wins}
 use Rattle.assertion.specs.declared.assertions.Planned.{Planned}
-use Rattle.assertion.specs.Assertions.{Plan, contest_stands, each_stands, meant, pair_plan, pairs_of, pairs_under, planned, planned_by, planned_of, share_plan, shares_of}
-use Rattle.assertion.proofs.Parts.{own_candidates}
-use Rattle.assertion.proofs.Totals.{in_its_ranges}
+use Rattle.assertion.specs.Assertions.{EachStands, Plan, Stands, meant, pair_plan, pairs_of, pairs_under, planned, planned_by, planned_of, share_plan, shares_of}
+use Rattle.assertion.proofs.Parts.{WalkedOn, walked_on}
 use Rattle.assorter.specs.Law.{JustWhen}
 use Rattle.assorter.specs.Outcomes.{AllHold, AllWon, ClaimsTellContest, ClaimsTellContests, TellsContest, TellsContests}
 use Rattle.assorter.specs.Values.{Holds, limited_vote}
@@ -91,29 +90,33 @@ means_by (Supermajority p q) k x cs cards fit small = shares_mean k p q x cs car
 
 pub claims_tell_contest : ClaimsTellContest
 claims_tell_contest k x cs h cards =
-    let e = own_candidates x cs h in
-    let fit = in_its_ranges x cs h in
+    let e = h.candidates in
+    let fit = h.in_range in
     let P : ℕ → Type 0 = λ n.
     JustWhen (AllHold (planned_of k x cs) cards)
     (Ahead x.kind n (all_votes x.kind x.seats k cards) (votes x.kind x.seats k cards) (wins x cs)) in
     let Q : ℕ → Type 0 = λ n. SeatsFit x.kind n x.seats in
     subst P e (means_by x.kind k x cs cards (subst Q (sym e) fit.seats_fit) (omega (arith, e, fit.at_most_32)))
 
-pub claims_tell_contests : ClaimsTellContests
-unfolding planned each_stands AllWon
-claims_tell_contests k [] cs h cards = (λ _. tt, λ _. tt)
-claims_tell_contests k (x ∷ xs) cs h cards =
+-- contest after contest
+told : (k : ℕ) (xs : List Contest) (cs : List Candidate) → WalkedOn xs cs → (cards : List Card) →
+    JustWhen (AllHold (planned k xs cs) cards) (AllWon k xs cs cards)
+unfolding planned AllWon
+told k [] cs h cards = (λ _. tt, λ _. tt)
+told k (x ∷ xs) cs h cards =
     let own = take x.candidates cs in
     let rest = drop x.candidates cs in
-    let b = and_parts (contest_stands x own) (each_stands xs rest) h in
     let P : Plan → Type 0 = λ plan. Holds plan.claim cards in
-    let first = claims_tell_contest k x own b.0 cards in
-    let after = claims_tell_contests (k + 1) xs rest b.1 cards in (
+    let first = claims_tell_contest k x own h.1 cards in
+    let after = told (k + 1) xs rest h.2 cards in (
       λ a.
           let p = all_parts P (planned_of k x own) (planned (k + 1) xs rest) a in
           (first.0 p.0, after.0 p.1),
       λ w. All-append P (planned_of k x own) (planned (k + 1) xs rest) (first.1 w.0) (after.1 w.1),
     )
+
+pub claims_tell_contests : ClaimsTellContests
+claims_tell_contests k xs cs h cards = told k xs cs (walked_on xs cs h) cards
 
 -- An answer on all the claims of the listed assertions is the answer on the outcome.
 module _ (r : Bool) (assertions : List Planned) (cards : List Card) (d : Decides r (AllHold (map meant assertions) cards)) where
