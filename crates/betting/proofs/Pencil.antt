@@ -1,14 +1,19 @@
 -- Stake, payoff, risk and settlement as a pencil has them, and how far a wealth can grow.
 use Rattle.std.proofs.Common.{◌≡◌, ℕ, ◌+◌, ◌-◌, ◌*◌, ◌/◌, ◌%◌, ◌^◌, ◌<◌, ◌≤◌, min, max, ◌↔◌, Decides, sym, ap, ◌∙◌, ⊎_elim, mul_comm, div-lt_iff_lt-mul, add-mul, mul-le-mul_left, one-mul, div-le_self, arith}
 use native.Mathlib.Nat.{div-eq_of_lt-le, div-zero, mul-div-le}
-use Rattle.std.proofs.lemmas.Nat.{le-div}
 use Rattle.std.proofs.lemmas.Grind.{div_ceil_times}
 use Rattle.std.proofs.lemmas.Bool.{cases_lt, le-leb, leb-true}
-use Rattle.betting.specs.Sums.{ModestGrowth, payoff_of, PayoffByPencil, risk_of, RiskByPencil, rounded_up, settled, stake_of, wealth_after}
+use Rattle.betting.specs.Limits.{most_wealth}
+use Rattle.betting.specs.Sums.{ModestGrowth, payoff_of, PayoffByPencil, risk_of, RiskByPencil, RoundedDown, rounded_up, settled, stake_of, wealth_after}
+
+rounded_down : (n d : ℕ) → 0 < d → RoundedDown n d (n / d)
+rounded_down n d h =
+    let next = (div-lt_iff_lt-mul {k = d} {x = n} {y = n / d + 1} h).0 (omega arith) in
+    (mul-div-le n d, omega (arith, next, mul_comm d (n / d + 1)))
 
 pub payoff_pencil : (stake half value : ℕ) → PayoffByPencil stake half value (payoff_of stake half value)
 payoff_pencil stake half value = (
-  λ h. (mul-div-le (stake * value) half, λ k low. le-div k (stake * value) half h (omega (arith, mul_comm half k))),
+  λ h. rounded_down (stake * value) half h,
   λ e. ap (λ d. stake * value / d) e ∙ div-zero (stake * value),
 )
 
@@ -19,11 +24,11 @@ pub stake_le : (wealth bet : ℕ) → bet ≤ 1000 → stake_of wealth bet ≤ w
 stake_le wealth bet h = omega (arith, mul-le-mul_left wealth h)
 
 -- from a wealth that a record can have, by a bet that a policy can make
-pub stake_low : (wealth bet : ℕ) → wealth ≤ 100000000000000 → bet ≤ 1000 → wealth * bet ≤ 100000000000000000
+pub stake_low : (wealth bet : ℕ) → wealth ≤ most_wealth → bet ≤ 1000 → wealth * bet ≤ 100000000000000000
 stake_low wealth bet low h = omega (arith, mul-le-mul_left wealth h)
 
 pub payoff_low :
-    (wealth bet value : ℕ) → wealth ≤ 100000000000000 → bet ≤ 1000 → value < 2 ^ 16 →
+    (wealth bet value : ℕ) → wealth ≤ most_wealth → bet ≤ 1000 → value < 2 ^ 16 →
     stake_of wealth bet * value ≤ 6553600000000000000
 payoff_low wealth bet value low h v =
     let s = stake_of wealth bet in

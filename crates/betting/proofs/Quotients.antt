@@ -4,6 +4,7 @@ use Rattle.std.specs.Int.{FitsUnsignedBits}
 use Rattle.std.specs.Result.{OkIff, result_unwrap_or}
 use Rattle.std.proofs.lemmas.Int.{ints}
 use Rattle.std.proofs.lemmas.Nat.{mul-le}
+use Rattle.betting.specs.Limits.{last_counted}
 use Rattle.betting.specs.Shrinks.{at_least_0}
 
 pub base_le : (w f s : ℕ) → w ≤ 1000 → f ≤ 1000 → s ≤ 1000 → w * f * s ≤ 1000000000
@@ -22,7 +23,7 @@ abbrev pub computed : ℕ → ℤ → ℤ
 computed b z = to_z w64 (of_z w64 (to_z w64 b +ℤ to_z w64 (of_z w64 (pos 1000 *ℤ to_z w64 (of_z w64 (to_z w32 (of_z w32 z)))))))
 
 pub dividend_or_0 :
-    {E : Type 0} (b n : ℕ) (z : ℤ) (r : Result ℕ E) → b ≤ 1000000000 → n ≤ 20000 → neg_ℤ (pos (1000 * n)) ≤ℤ z →
+    {E : Type 0} (b n : ℕ) (z : ℤ) (r : Result ℕ E) → b ≤ 1000000000 → n ≤ last_counted → neg_ℤ (pos (1000 * n)) ≤ℤ z →
     z ≤ℤ pos (1000 * n) → OkIff r (FitsUnsignedBits 64 (computed b z)) (nat_abs (computed b z)) →
     result_unwrap_or r 0 ≡ at_least_0 (pos b +ℤ (pos 1000 *ℤ z))
 dividend_or_0 b n z r small few low high e =

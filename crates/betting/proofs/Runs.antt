@@ -4,6 +4,7 @@ use lib.IntN.{+ℤ_idl, +ℤ_idr}
 use Rattle.std.proofs.lemmas.Int.{ints}
 use Rattle.std.proofs.lemmas.List.Sums.{sum_by-cons}
 use Rattle.std.proofs.lemmas.Bool.{cases_Bool, eqb-true, lt-leb}
+use Rattle.betting.specs.Limits.{last_counted}
 use Rattle.betting.specs.Shrinks.{counts_as, differs, fresh, one_more, RunsByTheRule, shrinking_told, Shrinks, sum_above, told_all}
 
 abbrev count : Shrinks → List ℕ → ℕ
@@ -16,7 +17,7 @@ sum s vs = sum_above s.half s.top vs
 abbrev one : Shrinks → ℕ → ℕ
 one s v = cond (differs s.half s.top v) 1 0
 
-pub run : (s : Shrinks) (vs : List ℕ) → s.counted + count s vs ≤ 20000 →
+pub run : (s : Shrinks) (vs : List ℕ) → s.counted + count s vs ≤ last_counted →
     ((told_all s vs).counted ≡ s.counted + count s vs) × ((told_all s vs).excess ≡ s.excess +ℤ sum s vs)
 run s [] h = (sym (add-zero s.counted), sym (+ℤ_idr s.excess))
 run s (v ∷ vs) h =
@@ -33,7 +34,7 @@ run s (v ∷ vs) h =
           )
       | inr e ↦
           let n : one s v ≡ 1 = simp e in
-          let f : leb 20000 s.counted ≡ false = lt-leb 20000 s.counted (omega (arith, n)) in
+          let f : leb last_counted s.counted ≡ false = lt-leb last_counted s.counted (omega (arith, n)) in
           let t : shrinking_told s v ≡ one_more s v = simp (e, f) in
           let r = run (one_more s v) vs (omega (arith, n)) in (
             ap (λ x. (told_all x vs).counted) t ∙ (r.0 ∙ omega (arith, n)),

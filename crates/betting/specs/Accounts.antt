@@ -1,6 +1,7 @@
 -- A record by its meaning, and what one card's value does to it.
-use Rattle.std.specs.Prelude.{ℕ, ◌+◌, ◌≤◌, min, max, cond}
+use Rattle.std.specs.Prelude.{ℕ, ◌+◌, ◌≤◌, min, max, if◌then◌else◌}
 use Rattle.betting.specs.declared.records.Record.{Record}
+use Rattle.betting.specs.Limits.{last_tally, most_wealth}
 use Rattle.betting.specs.Sums.{settled, wealth_after}
 
 -- The policy counts by its state.
@@ -26,39 +27,25 @@ opened a s = record { assorter = a; state = s; wealth = 1000000000; peak = 10000
 
 -- The account after a bet on a card of this value; the policy is told the value after its bet.
 abbrev pub moved : {A S : Type 0} → (S → ℕ) → (S → ℕ → S) → ℕ → ℕ → Account A S → Account A S
-moved bet told half value x = record {
-  assorter = x.assorter;
+moved bet told half value x = record x {
   state = told x.state value;
   wealth = wealth_after x.wealth (bet x.state) half value;
   peak = max x.peak (wealth_after x.wealth (bet x.state) half value);
-  tally = x.tally;
 }
 
 -- An account that is settled at the risk limit stays as it is.
 abbrev pub played : {A S : Type 0} → (S → ℕ) → (S → ℕ → S) → ℕ → ℕ → ℕ → Account A S → Account A S
-played bet told half value limit x = cond (settled x.peak limit) x (moved bet told half value x)
+played bet told half value limit x = if settled x.peak limit then x else moved bet told half value x
 
--- The account after a card of this value in the hand count; the tally stops at 65,535,000.
+-- The account after a card of this value in the hand count.
 abbrev pub tallied : {A S : Type 0} → ℕ → Account A S → Account A S
-tallied value x = record {
-  assorter = x.assorter;
-  state = x.state;
-  wealth = x.wealth;
-  peak = x.peak;
-  tally = min (x.tally + value) 65535000;
-}
+tallied value x = record x { tally = min (x.tally + value) last_tally }
 
--- No record holds more than 10^14. In the rules' ranges nothing is cut.
+-- The account as a record can hold it. In the rules' ranges nothing is cut.
 abbrev pub cut : {A S : Type 0} → Account A S → Account A S
-cut x = record {
-  assorter = x.assorter;
-  state = x.state;
-  wealth = min x.wealth 100000000000000;
-  peak = min x.peak 100000000000000;
-  tally = x.tally;
-}
+cut x = record x { wealth = min x.wealth most_wealth; peak = min x.peak most_wealth }
 
--- The rules' ranges of a value and of a risk limit, as far as they keep every account below 10^14.
+-- The rules' ranges of a value and of a risk limit, as far as they keep every account uncut.
 pub record InRange (value limit : ℕ) : Type 0 where
   pub low_value : value ≤ 1000
   pub some_limit : 10 ≤ limit

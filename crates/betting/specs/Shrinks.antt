@@ -1,5 +1,6 @@
 -- The shrinking policy: what it bets, and what a value does to it.
-use Rattle.std.specs.Prelude.{◌≡◌, ℕ, ◌+◌, ◌-◌, ◌*◌, ◌/◌, ◌≤◌, min, Bool, cond, not, ◌&&◌, ◌||◌, List, [], ◌∷◌, ℤ, pos, negsuc, ◌+ℤ◌, ◌-ℤ◌, ◌*ℤ◌, Some, None, count_by, Option, ◌==◌, nat_le, nat_lt}
+use Rattle.std.specs.Prelude.{◌≡◌, ℕ, ◌+◌, ◌-◌, ◌*◌, ◌/◌, ◌≤◌, min, Bool, not, ◌&&◌, ◌||◌, List, [], ◌∷◌, ℤ, pos, negsuc, ◌+ℤ◌, ◌-ℤ◌, ◌*ℤ◌, Some, None, count_by, Option, if◌then◌else◌, ◌==◌, nat_le, nat_lt}
+use Rattle.betting.specs.Limits.{last_counted}
 
 pub record Shrinks : Type 0 where
   pub first : ℕ
@@ -21,7 +22,8 @@ fresh first weight half top =
     record { first = first; weight = weight; half = half; top = top; counted = 0; excess = pos 0 }
 
 abbrev pub begun : ℕ → ℕ → ℕ → ℕ → Option Shrinks
-begun first weight half top = cond (begins_in_range first weight half top) (Some (fresh first weight half top)) None
+begun first weight half top =
+    if begins_in_range first weight half top then Some (fresh first weight half top) else None
 
 -- A number, or 0 for one below 0.
 abbrev pub at_least_0 : ℤ → ℕ
@@ -42,22 +44,18 @@ shrinking_bet s = min (at_least_0 (dividend s) / divisor s) 950
 abbrev pub counts_as : Shrinks → ℕ → ℕ
 counts_as s v = min v s.top
 
--- Half speaks for nothing, and once 20,000 values are counted the policy stands still.
+-- Half speaks for nothing, and once enough values are counted the policy stands still.
 abbrev pub stays : Shrinks → ℕ → Bool
-stays s v = counts_as s v == s.half || nat_le 20000 s.counted
+stays s v = counts_as s v == s.half || nat_le last_counted s.counted
 
 abbrev pub one_more : Shrinks → ℕ → Shrinks
-one_more s v = record {
-  first = s.first;
-  weight = s.weight;
-  half = s.half;
-  top = s.top;
+one_more s v = record s {
   counted = s.counted + 1;
   excess = s.excess +ℤ (pos (counts_as s v) -ℤ pos s.half);
 }
 
 abbrev pub shrinking_told : Shrinks → ℕ → Shrinks
-shrinking_told s v = cond (stays s v) s (one_more s v)
+shrinking_told s v = if stays s v then s else one_more s v
 
 -- A whole run: the state after these values, how many of them differ from half, and the sum of the values less half.
 abbrev pub told_all : Shrinks → List ℕ → Shrinks
@@ -75,8 +73,8 @@ pub record CountsAndSums (half top : ℕ) (vs : List ℕ) (s : Shrinks) : Type 0
   pub counts : s.counted ≡ count_by (differs half top) vs
   pub sums : s.excess ≡ sum_above half top vs
 
--- As long as no more than 20,000 of the values differ from half, the policy counts and sums them all.
+-- As long as no more of the values differ from half than are counted, the policy counts and sums them all.
 abbrev pub RunsByTheRule : ℕ → ℕ → ℕ → ℕ → Type 0
 RunsByTheRule first weight half top =
-    (vs : List ℕ) → count_by (differs half top) vs ≤ 20000 →
+    (vs : List ℕ) → count_by (differs half top) vs ≤ last_counted →
     CountsAndSums half top vs (told_all (fresh first weight half top) vs)

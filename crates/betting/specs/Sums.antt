@@ -23,16 +23,15 @@ rounded_up n d = (n + d - 1) / d
 abbrev pub risk_of : ℕ → ℕ
 risk_of peak = rounded_up 1000000000000 (max peak 1)
 
--- By pencil: n is the greatest number with P.
-abbrev pub Greatest : (ℕ → Type 0) → ℕ → Type 0
-Greatest P n = P n × ((k : ℕ) → P k → k ≤ n)
+-- By pencil: d goes q times into n, and not once more.
+abbrev pub RoundedDown : ℕ → ℕ → ℕ → Type 0
+RoundedDown n d q = (d * q ≤ n) × (n < d * (q + 1))
 
 abbrev pub StakeByPencil : ℕ → ℕ → ℕ → Type 0
-StakeByPencil wealth bet = Greatest (λ s. 1000 * s ≤ wealth * bet)
+StakeByPencil wealth bet = RoundedDown (wealth * bet) 1000
 
 abbrev pub PayoffByPencil : ℕ → ℕ → ℕ → ℕ → Type 0
-PayoffByPencil stake half value f =
-    (0 < half → Greatest (λ k. half * k ≤ stake * value) f) × (half ≡ 0 → f ≡ 0)
+PayoffByPencil stake half value f = (0 < half → RoundedDown (stake * value) half f) × (half ≡ 0 → f ≡ 0)
 
 -- The risk r is at most p exactly when p thousandths of the peak reach 10^9.
 abbrev pub RiskByPencil : ℕ → ℕ → Type 0

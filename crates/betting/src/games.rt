@@ -1,4 +1,4 @@
-ghost use Rattle.std.specs.Prelude.{◌≡◌, ◌≤◌, Decides};
+ghost use Rattle.std.specs.Prelude.{◌≡◌, ◌≤◌, ◌↔◌, IsTrue};
 ghost use Rattle.betting.specs.Accounts.{account, cut, InRange, opened, played, tallied};
 ghost use Rattle.betting.specs.Sums.{risk_of, settled};
 
@@ -32,7 +32,7 @@ impl<A, P: Policy> Record<A, P> {
     /// Whether the assertion needs no more draws at the risk limit, in thousandths.
     pub fn is_settled(&self, risk_limit: u16) -> bool
         ensures is { result ≡ settled self.now.peak risk_limit }
-        ensures pencil { Decides result (risk_of self.now.peak ≤ risk_limit) }
+        ensures pencil { IsTrue result ↔ (risk_of self.now.peak ≤ risk_limit) }
     {
         // In 64 bits, which hold a record's peak times any limit.
         self.peak * risk_limit as u64 >= GOAL

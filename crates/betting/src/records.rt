@@ -1,4 +1,5 @@
 ghost use Rattle.std.specs.Prelude.{◌≤◌};
+ghost use Rattle.betting.specs.Limits.{last_tally, most_wealth};
 
 use std::alloc::AllocError;
 
@@ -10,7 +11,7 @@ pub struct Record<A, P> {
     pub wealth: u64,
     pub peak: u64,
     pub tally: u32,
-    ghost ranges: { (wealth ≤ peak) × (1000000000 ≤ peak) × (peak ≤ 100000000000000) × (tally ≤ 65535000) },
+    ghost ranges: { (wealth ≤ peak) × (1000000000 ≤ peak) × (peak ≤ most_wealth) × (tally ≤ last_tally) },
 }
 
 // By hand, and `Copy` with it: `Clone` cannot be derived for a struct with a ghost field, if it has

@@ -1,6 +1,7 @@
 //! Wealth and risk in whole numbers. The sums have 128 bits, so that they are the rules' own
 //! numbers on every argument.
-ghost use Rattle.std.specs.Prelude.{◌≡◌, ◌*◌, ◌^◌, ◌<◌, ◌≤◌, max, Decides};
+ghost use Rattle.std.specs.Prelude.{◌≡◌, ◌*◌, ◌^◌, ◌<◌, ◌≤◌, max, ◌↔◌, IsTrue};
+ghost use Rattle.betting.specs.Limits.{most_wealth};
 ghost use Rattle.betting.specs.Sums.{ModestGrowth, payoff_of, PayoffByPencil, risk_of, RiskByPencil, settled, stake_of, StakeByPencil, wealth_after};
 
 /// A wealth that grew to a thousand times its start has the risk of 1 in 1,000.
@@ -42,7 +43,7 @@ fn wide_payoff(stake: u128, half: u16, value: u16) -> u128
 // In 64 bits, which hold these sums: a division of 128 bits takes several times as long.
 #[tactic(auto, using(crate::proofs::Pencil::stake_low, crate::proofs::Pencil::payoff_low))]
 pub(super) fn held_wealth_after(wealth: u64, bet: u16, half: u16, value: u16) -> u64
-    requires held { wealth ≤ 100000000000000 }
+    requires held { wealth ≤ most_wealth }
     requires modest { bet ≤ 1000 }
     ensures { result ≡ wealth_after wealth bet half value }
 {
@@ -76,7 +77,7 @@ pub fn peak_after(peak: u64, wealth: u64) -> u64
 #[tactic(auto, using(crate::proofs::Pencil::settled_pencil))]
 pub fn is_settled(peak: u64, risk_limit: u16) -> bool
     ensures is { result ≡ settled peak risk_limit }
-    ensures pencil { Decides result (risk_of peak ≤ risk_limit) }
+    ensures pencil { IsTrue result ↔ (risk_of peak ≤ risk_limit) }
 {
     peak as u128 * risk_limit as u128 >= GOAL as u128
 }

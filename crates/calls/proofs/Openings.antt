@@ -22,8 +22,8 @@ use Rattle.betting.specs.Accounts.{Account, opened}
 use Rattle.betting.specs.Policies.{Chosen}
 use Rattle.course.specs.Terms as course
 use Rattle.course.specs.Course.{Rules, State}
-use Rattle.course.specs.Openings.{own_rules, OwnAccounts}
-use Rattle.course.proofs.Openings.{contradicted_when_lost, hand_count_decides, limits_wrong_boards}
+use Rattle.course.specs.Openings.{own_rules}
+use Rattle.course.proofs.Openings.{contradicted_when_lost, hand_count_decides, limits_wrong_boards, OwnAccounts}
 use Rattle.opening.specs.Starts.{after_start, any_fewer, fewer, start_answer, started}
 use Rattle.opening.proofs.Fills.{started_long}
 use Rattle.calls.specs.declared.states.Audit.{Audit}

@@ -1,6 +1,7 @@
 -- The bounds and the laws together.
 use Rattle.course.specs.Terms.{Terms}
-use Rattle.course.specs.Course.{Lawful, Rules, State}
+use Rattle.course.specs.Course.{Rules, State}
+use Rattle.course.proofs.Rules.{Lawful}
 use Rattle.course.specs.Promise.{Promised}
 use Rattle.course.proofs.Closings.{counts_decide}
 use Rattle.course.proofs.Deciding.{counts_exist}

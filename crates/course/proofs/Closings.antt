@@ -9,7 +9,7 @@ use Rattle.chance.specs.Sequences.{places}
 use Rattle.chance.proofs.Counts.{length_places}
 use Rattle.betting.specs.Accounts.{Account, opened}
 use Rattle.course.specs.Terms.{Terms, Shown, blank_card}
-use Rattle.course.specs.Course.{Rules, Lawful, State, Call, Answer, after_count, after_entry, all_above, first_of, parts, refusal_of, shown_value, step}
+use Rattle.course.specs.Course.{Rules, State, Call, Answer, after_count, after_entry, all_above, first_of, parts, refusal_of, shown_value, step}
 use Rattle.course.specs.Course.Call.{entry, verdict, escalation, hand_count, closing}
 use Rattle.course.specs.Course.Answer.{upheld}
 use Rattle.course.specs.Scripts.{Ballot, show_card, show_drawn, show_missing}
@@ -17,6 +17,7 @@ use Rattle.course.specs.Bounds.{Fits, Opened}
 use Rattle.course.specs.Laws.{BeforeEscalation, ClaimsHold, ClosesRightly, CountsDecide, counts_to, left_by}
 use Rattle.course.proofs.Steps.{by_cond, by_step, drawn_shown, taken_step}
 use Rattle.course.proofs.Fairness.{entry_assorter, entry_tally, sum_const, sum_le, sum_places}
+use Rattle.course.proofs.Rules.{Lawful}
 
 -- two lists whose elements are related one by one
 module _ {X : Type 0} where

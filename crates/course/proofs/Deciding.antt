@@ -10,10 +10,11 @@ use Rattle.chance.proofs.Games.{either}
 use Rattle.verdict.specs.declared.Finding.{Finding}
 use Rattle.verdict.specs.declared.Finding.TheVariants.{Confirm, Continue, FullHandCount}
 use Rattle.course.specs.Terms.{Terms}
-use Rattle.course.specs.Course.{Rules, Lawful, State, Answer, course, risks}
+use Rattle.course.specs.Course.{Rules, State, Answer, course, risks}
 use Rattle.course.specs.Course.Answer.{refused, taken, finding, upheld}
 use Rattle.course.specs.Scripts.{Ballot, calls, draws_in}
 use Rattle.course.specs.Bounds.{Any, accounts_of, Confirms, Contradicted, CountsExist, LowRisk, WrongAnswer}
+use Rattle.course.proofs.Rules.{Lawful}
 
 pub both : {A B : Type 0} → Dec A → Dec B → Dec (A × B)
 both (yes a) (yes b) = yes (a, b)
@@ -84,7 +85,7 @@ module _ {A S : Type 0} (R : Rules A S) (law : Lawful R) where
     low_decided k p x = both (dec_lt k (length t.assertions)) (dec_le (get_or (risks t x.0) k 0) p)
 
   pub counts_exist : CountsExist R
-  counts_exist t σ b ms hs = record {
-    low_risks = λ k p. counted_some (λ s. any_decided (LowRisk R t σ k p) (low_decided t σ b k p) (course R t σ (calls t b ms hs s))) (sequences t.cards (draws_in ms));
-    wrong_answers = counted_some (λ s. any_decided (WrongAnswer R t σ b) (λ x. wrong_decided t σ b x.0 x.1) (course R t σ (calls t b ms hs s))) (sequences t.cards (draws_in ms));
+  counts_exist t σ b = record {
+    low_risks = λ k p ms hs. counted_some (λ s. any_decided (LowRisk R t σ k p) (low_decided t σ b k p) (course R t σ (calls t b ms hs s))) (sequences t.cards (draws_in ms));
+    wrong_answers = λ ms hs. counted_some (λ s. any_decided (WrongAnswer R t σ b) (λ x. wrong_decided t σ b x.0 x.1) (course R t σ (calls t b ms hs s))) (sequences t.cards (draws_in ms));
   }

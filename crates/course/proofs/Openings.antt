@@ -23,8 +23,14 @@ use Rattle.course.specs.Course.{State, parts}
 use Rattle.course.specs.Scripts.{Ballot}
 use Rattle.course.specs.Bounds.{Any, Opened, accounts_of, RiskLimited}
 use Rattle.course.specs.Laws.{ClaimsHold, CountsDecide}
-use Rattle.course.specs.Openings.{own_rules, ContradictedWhenLost, HandCountDecides, LimitsWrongBoards, OwnAccounts, Won, WonFrom}
+use Rattle.course.specs.Openings.{own_rules, ContradictedWhenLost, HandCountDecides, LimitsWrongBoards, Won, WonFrom}
 use Rattle.course.proofs.Deciding.{all_or_any}
+
+-- The accounts are those of the contests' own assertions, in order.
+pub record OwnAccounts (xs : List Contest) (cs : List Candidate) (t : Terms) (σ : State Assertion Chosen) : Type 0 where
+  pub stand : each_stands xs cs ≡ true
+  pub parts_are : t.assertions ≡ map assertion_count xs
+  pub claims_are : map (λ x. claim_of x.assorter) σ.accounts ≡ map (λ plan. plan.claim) (planned 0 xs cs)
 
 -- accounts just opened have seen no card
 pub opened_all : {X A S : Type 0} (f : X → A) (g : X → S) (ys : List X) → AllByRecursion (λ x. x ≡ opened x.assorter x.state) (map (λ y. opened (f y) (g y)) ys)
@@ -104,7 +110,7 @@ module _ (xs : List Contest) (cs : List Candidate) (t : Terms) (σ : State Asser
       )
 
   pub limits_wrong_boards : RiskLimited own_rules t σ → LimitsWrongBoards xs cs t σ
-  limits_wrong_boards limited b fits ms hs k lost = limited b fits ms hs k ((contradicted_when_lost b k).1 lost)
+  limits_wrong_boards limited b fits k lost = limited b fits k ((contradicted_when_lost b k).1 lost)
 
   pub hand_count_decides : CountsDecide own_rules → Opened σ → t.cards ≤ 65535 → HandCountDecides xs cs t σ
   hand_count_decides decide fresh few before h b fits =

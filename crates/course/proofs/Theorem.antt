@@ -1,5 +1,5 @@
 -- Both bounds: a script is a tree of calls in which the account of a false claim plays a fair game.
-use Rattle.std.proofs.Common.{◌≡◌, ℕ, ◌+◌, ◌-◌, ◌*◌, ◌^◌, ◌<◌, ◌≤◌, max, Bool, true, false, cond, eqb, List, [], ◌∷◌, map, length, get_or, take, Some, None, sum_by, Option, sym, refl, ap, ◌∙◌, subst, inl, inr, ⊎_elim, zero-le, le_trans, le_of_eq, le_refl, mul-le-mul_right, mul_comm, mul-le-mul_left, mul_right_comm, arith, take_all}
+use Rattle.std.proofs.Common.{◌≡◌, ℕ, ◌+◌, ◌-◌, ◌*◌, ◌<◌, ◌≤◌, max, Bool, true, false, cond, eqb, List, [], ◌∷◌, map, length, get_or, take, Some, None, sum_by, Option, sym, refl, ap, ◌∙◌, subst, inl, inr, ⊎_elim, zero-le, le_trans, le_of_eq, le_refl, mul-le-mul_right, mul_comm, mul-le-mul_left, mul_right_comm, arith, take_all}
 use native.Mathlib.Nat.{le-max_left}
 use Rattle.std.proofs.Math.ListN
 use lib.ListN.{length-map}
@@ -10,25 +10,26 @@ use Rattle.std.proofs.lemmas.List.Sums.{sum_by_more}
 use Rattle.std.proofs.lemmas.Bool.{cases_lt}
 use Rattle.refusal.specs.declared.Refusal.{Refusal}
 use Rattle.refusal.specs.declared.Refusal.TheVariants.{NoDrawsLeft}
-use Rattle.chance.specs.Sequences.{places, sequences, Counted}
+use Rattle.chance.specs.Sequences.{places, sequences, AtMostIn}
 use Rattle.chance.specs.Tree.{Tree, Meets, Fair}
 use Rattle.chance.specs.Tree.Tree.{done, call, draw}
-use Rattle.chance.proofs.Counts.{counted_le, length_places, length_sequences}
+use Rattle.chance.proofs.Counts.{counted_le, length_places}
 use Rattle.chance.proofs.Games.{event_bounded}
 use Rattle.betting.specs.Accounts.{Account, opened}
 use Rattle.betting.proofs.Pencil.{risk_pencil}
 use Rattle.verdict.specs.declared.Finding.TheVariants.{Confirm, Continue, FullHandCount}
 use Rattle.course.specs.Terms.{Terms, Shown, blank_card}
-use Rattle.course.specs.Course.{Rules, Lawful, State, Call, Answer, after_count, after_entry, all_above, all_settled, answered, course, first_of, no_draws_left, parts, refusal_of, risks, shown_value, step, worst_risk}
+use Rattle.course.specs.Course.{Rules, State, Call, Answer, after_count, after_entry, all_above, all_settled, answered, course, first_of, no_draws_left, parts, refusal_of, risks, shown_value, step, worst_risk}
 use Rattle.course.specs.Course.Call.{entry, verdict, escalation, hand_count, closing}
 use Rattle.course.specs.Course.Answer.{taken}
 use Rattle.course.specs.Scripts.{Ballot, Move, Hand, calls, draws_in, hand_call, hand_calls, show_card, show_drawn, show_missing}
-use Rattle.course.specs.Bounds.{Any, accounts_of, Confirms, Contradicted, Fits, LimitsRisk, LowRisk, MeasuresRisk, Opened, WrongAnswer}
+use Rattle.course.specs.Bounds.{Any, AtMostBring, accounts_of, Confirms, Contradicted, Fits, LimitsRisk, LowRisk, MeasuresRisk, Opened, WrongAnswer}
 use Rattle.course.specs.Laws.{NeverUpholdsWrongly, UpholdsTruly}
 use Rattle.course.proofs.Steps.{by_step, closed_all, counted_place, drawn_shown, misread_count, misread_entry, some_not_none, taken_step}
 use Rattle.course.proofs.Deciding.{all_or_any, claim_or_not}
 use Rattle.course.proofs.Fairness.{cards_sum, entry_assorter, entry_fair, entry_highest, entry_rises, entry_tally, sum_const, sum_places_le}
 use Rattle.course.proofs.Parts.{InPart, part_above, part_any, part_worst, settled_at}
+use Rattle.course.proofs.Rules.{Lawful}
 
 module _ {A S : Type 0} (R : Rules A S) (t : Terms) (b : Ballot) where
   abbrev After : Type 0
@@ -192,15 +193,15 @@ module _ {A S : Type 0} (R : Rules A S) (t : Terms) (b : Ballot) where
     tree_fair σ (Move.ask ∷ ms) hs ans k = (refl, refl, tree_fair (step R t σ verdict).0 ms hs _ k)
 
     -- an event that shows the account at a peak of 10^12 / p is counted at most p × N^n / 1,000 times
-    bounded : (σ : State A S) (ms : List (Move t)) (hs : Option (List (Hand t))) (p : ℕ) (E : List ℕ → Type 0) → Kept σ → (at σ).wealth ≡ 1000000000 → (at σ).peak ≡ 1000000000 → ((s : List ℕ) → E s → Meets (λ x. 1000000000000 ≤ p * peak x) (tree σ ms hs) s) → (m : ℕ) → Counted E (sequences t.cards (draws_in ms)) m → 1000 * m ≤ p * t.cards ^ draws_in ms
+    bounded : (σ : State A S) (ms : List (Move t)) (hs : Option (List (Hand t))) (p : ℕ) (E : List ℕ → Type 0) → Kept σ → (at σ).wealth ≡ 1000000000 → (at σ).peak ≡ 1000000000 → ((s : List ℕ) → E s → Meets (λ x. 1000000000000 ≤ p * peak x) (tree σ ms hs) s) → AtMostIn p 1000 (sequences t.cards (draws_in ms)) E
     bounded σ ms hs p E k w₀ p₀ to m c =
         ⊎_elim
         (λ small.
-        let big : 1000000000000 * m ≤ p * (at σ).wealth * t.cards ^ draws_in ms = event_bounded t.cards p 1000000000000 wealth peak (σ, taken) (tree σ ms hs) (tree_fair σ ms hs taken k) (omega (arith, p₀, ap (λ n. p * n) p₀)) to c in
-        let M : ℕ = t.cards ^ draws_in ms in
+        let M : ℕ = length (sequences t.cards (draws_in ms)) in
+        let big : 1000000000000 * m ≤ p * (at σ).wealth * M = event_bounded t.cards p 1000000000000 wealth peak (σ, taken) (tree σ ms hs) E (tree_fair σ ms hs taken k) (omega (arith, p₀, ap (λ n. p * n) p₀)) to m c in
         let e : p * (at σ).wealth * M ≡ p * M * 1000000000 = ap (λ w. p * w * M) w₀ ∙ mul_right_comm p 1000000000 M in
         omega (arith, big, e))
-        (λ large. le_trans (mul-le-mul_left 1000 (le_trans (counted_le c) (le_of_eq (length_sequences t.cards (draws_in ms))))) (mul-le-mul_right (t.cards ^ draws_in ms) large))
+        (λ large. le_trans (mul-le-mul_left 1000 (counted_le c)) (mul-le-mul_right (length (sequences t.cards (draws_in ms))) large))
         (cases_lt p 1000)
 
     -- where the contest's risk is low, so is the account's
@@ -260,10 +261,10 @@ module _ {A S : Type 0} (R : Rules A S) (t : Terms) (law : Lawful R) (σ : State
         little = omega (arith, ap (λ (x : Account A S). x.tally) g);
       }
 
-  share_bounded : (k : ℕ) (f : False k) (ms : List (Move t)) (hs : Option (List (Hand t))) (p : ℕ) (E : List ℕ → Type 0) → ((s : List ℕ) → E s → Meets (λ x. 1000000000000 ≤ p * (get_or x.0.accounts f.j f.first).peak) (tree R t b σ ms hs) s) → (m : ℕ) → Counted E (sequences t.cards (draws_in ms)) m → 1000 * m ≤ p * t.cards ^ draws_in ms
-  share_bounded k f ms hs p E to m c =
+  share_bounded : (k : ℕ) (f : False k) (ms : List (Move t)) (hs : Option (List (Hand t))) (p : ℕ) (E : List ℕ → Type 0) → ((s : List ℕ) → E s → Meets (λ x. 1000000000000 ≤ p * (get_or x.0.accounts f.j f.first).peak) (tree R t b σ ms hs) s) → AtMostIn p 1000 (sequences t.cards (draws_in ms)) E
+  share_bounded k f ms hs p E to =
       let g = fresh_at k f in
-      bounded R t b law fits (get_or σ.accounts f.j f.first).assorter f.untrue f.j f.first σ ms hs p E (start k f) (ap (λ (x : Account A S). x.wealth) g) (ap (λ (x : Account A S). x.peak) g) to m c
+      bounded R t b law fits (get_or σ.accounts f.j f.first).assorter f.untrue f.j f.first σ ms hs p E (start k f) (ap (λ (x : Account A S). x.wealth) g) (ap (λ (x : Account A S). x.peak) g) to
 
   keeps_entry : (k : ℕ) (f : False k) (τ : State A S) (e : Shown) → Keeps k f τ → Keeps k f (step R t τ (entry e)).0
   keeps_entry k f = entry_kept R t b law fits _ f.untrue f.j f.first
@@ -271,10 +272,10 @@ module _ {A S : Type 0} (R : Rules A S) (t : Terms) (law : Lawful R) (σ : State
   keeps_hand : (k : ℕ) (f : False k) (τ : State A S) (h : Hand t) → Keeps k f τ → Keeps k f (step R t τ (hand_call t b h)).0
   keeps_hand k f = hand_kept R t b law fits _ f.untrue f.j f.first
 
-  pub measured : (ms : List (Move t)) (hs : Option (List (Hand t))) (k : ℕ) → Contradicted R t σ b k → (p m : ℕ) → Counted (λ s. Any (LowRisk R t σ k p) (course R t σ (calls t b ms hs s))) (sequences t.cards (draws_in ms)) m → 1000 * m ≤ p * t.cards ^ draws_in ms
-  measured ms hs k bad p m c =
+  pub measured : (k : ℕ) → Contradicted R t σ b k → (p : ℕ) → AtMostBring R t σ b p 1000 (LowRisk R t σ k p)
+  measured k bad p ms hs =
       let f = false_at k bad in
-      share_bounded k f ms hs p _ (λ s met. tree_meets R t b (Keeps k f) (keeps_entry k f) (keeps_hand k f) (LowRisk R t σ k p) _ (λ τ c' kτ kn q. low_risk R t b law fits _ f.untrue f.j f.first k p f.part (step R t τ c').0 kn q.1) σ ms hs s (start k f) met) m c
+      share_bounded k f ms hs p _ (λ s met. tree_meets R t b (Keeps k f) (keeps_entry k f) (keeps_hand k f) (LowRisk R t σ k p) _ (λ τ c' kτ kn q. low_risk R t b law fits _ f.untrue f.j f.first k p f.part (step R t τ c').0 kn q.1) σ ms hs s (start k f) met)
 
   -- what every call keeps of every false claim
   abbrev KeepsAll : State A S → Type 0
@@ -290,10 +291,10 @@ module _ {A S : Type 0} (R : Rules A S) (t : Terms) (law : Lawful R) (σ : State
   wrong k f τ (hand_count e) ks w = absurd (by_step R t (λ x. WrongAnswer R t σ b x → ⊥) τ (hand_count e) (λ _ m. m) (λ _ m. m) w)
   wrong k f τ closing ks w = absurd (by_step R t (λ x. WrongAnswer R t σ b x → ⊥) τ closing (λ ok u. let g = false_at u.0 u.1 in not_upheld R t b law fits _ g.untrue g.j g.first u.0 g.part τ (ks u.0 g) ok u.2) (λ _ m. m) w)
 
-  pub limited : (ms : List (Move t)) (hs : Option (List (Hand t))) (k : ℕ) → Contradicted R t σ b k → (m : ℕ) → Counted (λ s. Any (WrongAnswer R t σ b) (course R t σ (calls t b ms hs s))) (sequences t.cards (draws_in ms)) m → 1000 * m ≤ t.limit * t.cards ^ draws_in ms
-  limited ms hs k bad m c =
+  pub limited : (k : ℕ) → Contradicted R t σ b k → AtMostBring R t σ b t.limit 1000 (WrongAnswer R t σ b)
+  limited k bad ms hs =
       let f = false_at k bad in
-      share_bounded k f ms hs t.limit _ (λ s met. tree_meets R t b KeepsAll (λ τ e ks k' f'. keeps_entry k' f' τ e (ks k' f')) (λ τ h ks k' f'. keeps_hand k' f' τ h (ks k' f')) (WrongAnswer R t σ b) _ (λ τ c' kτ kn q. wrong k f τ c' kτ q) σ ms hs s (λ k' f'. start k' f') met) m c
+      share_bounded k f ms hs t.limit _ (λ s met. tree_meets R t b KeepsAll (λ τ e ks k' f'. keeps_entry k' f' τ e (ks k' f')) (λ τ h ks k' f'. keeps_hand k' f' τ h (ks k' f')) (WrongAnswer R t σ b) _ (λ τ c' kτ kn q. wrong k f τ c' kτ q) σ ms hs s (λ k' f'. start k' f') met)
 
   truly : (τ : State A S) (c : Call) → KeepsAll τ → UpholdsTruly R t σ b (step R t τ c)
   truly τ (entry e) ks = by_step R t (UpholdsTruly R t σ b) τ (entry e) (λ _. tt) (λ _. tt)
@@ -314,10 +315,10 @@ module _ {A S : Type 0} (R : Rules A S) (t : Terms) (law : Lawful R) (σ : State
 
 module _ {A S : Type 0} (R : Rules A S) (law : Lawful R) where
   pub measures_risk : MeasuresRisk R
-  measures_risk t σ o b fits ms hs k bad p m c = measured R t law σ o b fits ms hs k bad p m c
+  measures_risk t σ o b fits = measured R t law σ o b fits
 
   pub limits_risk : LimitsRisk R
-  limits_risk t σ o b fits ms hs k bad m c = limited R t law σ o b fits ms hs k bad m c
+  limits_risk t σ o b fits = limited R t law σ o b fits
 
   pub never_upholds_wrongly : NeverUpholdsWrongly R
   never_upholds_wrongly t σ o b fits ms hs s = all_truly R t law σ o b fits ms hs s

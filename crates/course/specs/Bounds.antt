@@ -1,7 +1,7 @@
 -- The two bounds on an audit of a contest that the cards contradict.
-use Rattle.std.specs.Prelude.{◌≡◌, ℕ, ◌*◌, ◌^◌, ◌<◌, ◌≤◌, true, false, ◌⊎◌, List, [], ◌∷◌, length, Option, slice_index, slice_index_or}
+use Rattle.std.specs.Prelude.{◌≡◌, ℕ, ◌<◌, ◌≤◌, true, false, ◌⊎◌, List, [], ◌∷◌, length, Option, slice_index, slice_index_or}
 use Rattle.std.specs.List.{AllByRecursion}
-use Rattle.chance.specs.Sequences.{sequences, Counted}
+use Rattle.chance.specs.Sequences.{sequences, AtMostIn, Counted}
 use Rattle.betting.specs.Accounts.{Account, opened}
 use Rattle.verdict.specs.declared.Finding.{Finding}
 use Rattle.verdict.specs.declared.Finding.TheVariants.{Confirm, Continue, FullHandCount}
@@ -53,34 +53,39 @@ module _ {A S : Type 0} (R : Rules A S) (t : Terms) (σ : State A S) where
     | upheld us ↦ (k : ℕ) × Contradicted b k × (slice_index_or us k false ≡ true)
   ]
 
-  -- Of all draw sequences at most p in 1,000 bring a contradicted contest's risk to p thousandths.
+  -- Where the draws name these places, some call of the script leaves and answers so.
+  abbrev pub Brings : Ballot → List (Move t) → Option (List (Hand t)) → (State A S × Answer → Type 0) → List ℕ → Type 0
+  Brings b ms hs Q s = Any Q (course R t σ (calls t b ms hs s))
+
+  -- Whatever the script: at most p in every so many of its draw sequences bring it.
+  abbrev pub AtMostBring : Ballot → ℕ → ℕ → (State A S × Answer → Type 0) → Type 0
+  AtMostBring b p so_many Q =
+      (ms : List (Move t)) (hs : Option (List (Hand t))) →
+      AtMostIn p so_many (sequences t.cards (draws_in ms)) (Brings b ms hs Q)
+
+  -- Whatever the script: there is a number of its draw sequences that bring it.
+  abbrev pub SoManyBring : Ballot → (State A S × Answer → Type 0) → Type 0
+  SoManyBring b Q =
+      (ms : List (Move t)) (hs : Option (List (Hand t))) →
+      (m : ℕ) × Counted (Brings b ms hs Q) (sequences t.cards (draws_in ms)) m
+
+  -- At most p in 1,000 bring a contradicted contest's risk to p thousandths.
   abbrev pub RiskMeasured : Type 0
-  RiskMeasured =
-      (b : Ballot) → Fits t b → (ms : List (Move t)) (hs : Option (List (Hand t))) (k : ℕ) → Contradicted b k →
-      (p m : ℕ) →
-      Counted (λ s. Any (LowRisk k p) (course R t σ (calls t b ms hs s))) (sequences t.cards (draws_in ms)) m →
-      1000 * m ≤ p * t.cards ^ draws_in ms
+  RiskMeasured = (b : Ballot) → Fits t b → (k : ℕ) → Contradicted b k → (p : ℕ) → AtMostBring b p 1000 (LowRisk k p)
 
-  -- Of all draw sequences at most the risk limit's share confirm, or uphold what the cards contradict.
+  -- At most the risk limit's share confirm, or uphold what the cards contradict.
   abbrev pub RiskLimited : Type 0
-  RiskLimited =
-      (b : Ballot) → Fits t b → (ms : List (Move t)) (hs : Option (List (Hand t))) (k : ℕ) → Contradicted b k → (m : ℕ) →
-      Counted (λ s. Any (WrongAnswer b) (course R t σ (calls t b ms hs s))) (sequences t.cards (draws_in ms)) m →
-      1000 * m ≤ t.limit * t.cards ^ draws_in ms
+  RiskLimited = (b : Ballot) → Fits t b → (k : ℕ) → Contradicted b k → AtMostBring b t.limit 1000 (WrongAnswer b)
 
-  -- Both events have their count.
-  pub record HasCounts (b : Ballot) (ms : List (Move t)) (hs : Option (List (Hand t))) : Type 0 where
-    pub low_risks :
-        (k p : ℕ) →
-        (m : ℕ) × Counted (λ s. Any (LowRisk k p) (course R t σ (calls t b ms hs s))) (sequences t.cards (draws_in ms)) m
-    pub wrong_answers :
-        (m : ℕ) × Counted (λ s. Any (WrongAnswer b) (course R t σ (calls t b ms hs s))) (sequences t.cards (draws_in ms)) m
+  -- Both events have their number.
+  pub record HasCounts (b : Ballot) : Type 0 where
+    pub low_risks : (k p : ℕ) → SoManyBring b (LowRisk k p)
+    pub wrong_answers : SoManyBring b (WrongAnswer b)
 
 module _ {A S : Type 0} (R : Rules A S) where
   -- So the bounds speak of every script.
   abbrev pub CountsExist : Type 0
-  CountsExist =
-      (t : Terms) (σ : State A S) (b : Ballot) (ms : List (Move t)) (hs : Option (List (Hand t))) → HasCounts R t σ b ms hs
+  CountsExist = (t : Terms) (σ : State A S) (b : Ballot) → HasCounts R t σ b
 
   -- Both bounds hold of every audit that is opened by these rules.
   abbrev pub MeasuresRisk : Type 0

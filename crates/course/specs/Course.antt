@@ -1,9 +1,8 @@
 -- The calls of an audit: what each answers, and what it leaves.
-use Rattle.std.specs.Prelude.{ℕ, ◌+◌, ◌*◌, ◌≤◌, max, Bool, true, cond, ◌&&◌, ◌||◌, List, [], ◌∷◌, map, take, drop, Some, None, Option, ◌==◌, nat_le, nat_lt}
+use Rattle.std.specs.Prelude.{ℕ, ◌+◌, ◌*◌, max, Bool, true, ◌&&◌, ◌||◌, List, [], ◌∷◌, map, take, drop, Some, None, Option, ◌==◌, if◌then◌else◌, nat_le, nat_lt}
 use Rattle.refusal.specs.declared.Refusal.{Refusal}
 use Rattle.refusal.specs.declared.Refusal.TheVariants.{NoDrawsLeft, NotTheNextPlace, CountUnfinished}
 use Rattle.ballot.specs.declared.Card.{Card}
-use Rattle.assorter.specs.Law.{Above, JustWhen}
 use Rattle.assorter.specs.declared.assorters.Assorter.{Ghosts as Assorting}
 use Rattle.betting.specs.Accounts.{Account, played, tallied}
 use Rattle.betting.specs.Sums.{risk_of, settled}
@@ -19,14 +18,6 @@ pub record Rules (A S : Type 0) : Type 1 where
   pub claim : A → List Card → Type 0
   pub bet : S → ℕ
   pub told : S → ℕ → S
-
--- What they promise: a claim holds just when the values of the cards are above a half on average, and no bet is more
--- than the wealth.
-pub record Lawful {A S : Type 0} (R : Rules A S) : Type 0 where
-  pub some_half : (a : A) → 1 ≤ R.half a
-  pub low_value : (a : A) (card : Card) → R.value a card ≤ 1000
-  pub exact : (a : A) (cards : List Card) → JustWhen (R.claim a cards) (Above (R.half a) (R.value a) cards)
-  pub modest : (s : S) → R.bet s ≤ 1000
 
 -- The rules of an assorter and a policy of the code.
 abbrev pub rules_of : {A P : Type 0} → Assorting A → (p : Betting P) → Rules A p.State
@@ -80,15 +71,16 @@ module _ {A S : Type 0} where
   no_draws_left t σ = all_settled t.limit σ.accounts || nat_le t.draws σ.drawn
 
   abbrev pub found_by : Terms → State A S → Finding
-  found_by t σ = cond (all_settled t.limit σ.accounts) Confirm (cond (σ.drawn == t.draws) FullHandCount Continue)
+  found_by t σ =
+      if all_settled t.limit σ.accounts then Confirm else (if σ.drawn == t.draws then FullHandCount else Continue)
 
   abbrev pub refusal_of : Terms → State A S → Call → Option Refusal
-  refusal_of t σ (entry e) = first_of (shown_refusal t e) (cond (no_draws_left t σ) (Some NoDrawsLeft) None)
+  refusal_of t σ (entry e) = first_of (shown_refusal t e) (if no_draws_left t σ then Some NoDrawsLeft else None)
   refusal_of t σ verdict = None
   refusal_of t σ escalation = None
   refusal_of t σ (hand_count e) =
-      first_of (shown_refusal t e) (cond (e.place == σ.counted + 1) None (Some NotTheNextPlace))
-  refusal_of t σ closing = cond (nat_lt σ.counted t.cards) (Some CountUnfinished) None
+      first_of (shown_refusal t e) (if e.place == σ.counted + 1 then None else Some NotTheNextPlace)
+  refusal_of t σ closing = if nat_lt σ.counted t.cards then Some CountUnfinished else None
 
   -- A refused call leaves the state as it is.
   abbrev pub unless_refused : Option Refusal → State A S → State A S × Answer → State A S × Answer
@@ -98,7 +90,7 @@ module _ {A S : Type 0} where
   module _ (R : Rules A S) where
     -- A missing card has the value 0.
     abbrev pub shown_value : A → Shown → ℕ
-    shown_value a e = cond (e.found == 0) 0 (R.value a e.card)
+    shown_value a e = if e.found == 0 then 0 else R.value a e.card
 
     abbrev pub after_entry : ℕ → Shown → Account A S → Account A S
     after_entry limit e x = played R.bet R.told (R.half x.assorter) (shown_value x.assorter e) limit x
@@ -112,16 +104,10 @@ module _ {A S : Type 0} where
     all_above N (x ∷ xs) = nat_lt (R.half x.assorter * N) x.tally && all_above N xs
 
     abbrev pub answered : Terms → State A S → Call → State A S × Answer
-    answered t σ (entry e) = (
-      record { accounts = map (after_entry t.limit e) σ.accounts; drawn = σ.drawn + 1; counted = σ.counted },
-      taken,
-    )
+    answered t σ (entry e) = (record σ { accounts = map (after_entry t.limit e) σ.accounts; drawn = σ.drawn + 1 }, taken)
     answered t σ verdict = (σ, finding (found_by t σ) σ.drawn (risks t σ))
     answered t σ escalation = (σ, taken)
-    answered t σ (hand_count e) = (
-      record { accounts = map (after_count e) σ.accounts; drawn = σ.drawn; counted = σ.counted + 1 },
-      taken,
-    )
+    answered t σ (hand_count e) = (record σ { accounts = map (after_count e) σ.accounts; counted = σ.counted + 1 }, taken)
     answered t σ closing = (σ, upheld (map (all_above t.cards) (parts t.assertions σ.accounts)))
 
     -- What a call leaves and answers.

@@ -11,11 +11,11 @@ use Rattle.assorter.specs.Values.{Holds, worth}
 use Rattle.chance.specs.Sequences.{sequences, Counted}
 use Rattle.betting.specs.Accounts.{opened}
 use Rattle.course.specs.Terms.{Terms}
-use Rattle.course.specs.Course.{Rules, State, Call, Answer, course, risks, step}
+use Rattle.course.specs.Course.{Rules, State, Answer, risks, step}
 use Rattle.course.specs.Course.Call.{entry, escalation, closing}
 use Rattle.course.specs.Course.Answer.{taken, upheld}
 use Rattle.course.specs.Scripts.{Ballot, Move, calls, show_missing}
-use Rattle.course.specs.Bounds.{Any, Contradicted, Fits, LowRisk, Opened, WrongAnswer}
+use Rattle.course.specs.Bounds.{Brings, Contradicted, Fits, LowRisk, Opened, WrongAnswer}
 use Rattle.course.specs.Laws.{BeforeEscalation, counts_to, left_by}
 
 -- The claims, and a bet that stays.
@@ -53,20 +53,21 @@ two_cards = record { cards = 2; limit = 513; draws = 10; candidates = 2 ∷ []; 
 abbrev pub both_for_first : State Claim ℕ
 both_for_first = just_opened (plans 2 0)
 
--- One entry on which the contest's risk is at most p.
+-- One entry brings the contest's risk to p.
 abbrev pub FallsTo : ℕ → List ℕ → Type 0
-FallsTo p s =
-    Any (LowRisk fixed_rules two_cards both_for_first 0 p)
-    (course fixed_rules two_cards both_for_first (calls two_cards both_found (Move.drawn ∷ []) None s))
+FallsTo p =
+    Brings fixed_rules two_cards both_for_first both_found (Move.drawn ∷ []) None
+    (LowRisk fixed_rules two_cards both_for_first 0 p)
 
 -- One entry, and a verdict.
-abbrev pub draw_and_ask : List ℕ → List Call
-draw_and_ask s = calls two_cards both_found (Move.drawn ∷ Move.ask ∷ []) None s
+abbrev pub draw_and_ask : List (Move two_cards)
+draw_and_ask = Move.drawn ∷ Move.ask ∷ []
 
--- Some answer is wrong.
+-- Some answer to them is wrong.
 abbrev pub Misled : List ℕ → Type 0
-Misled s =
-    Any (WrongAnswer fixed_rules two_cards both_for_first both_found) (course fixed_rules two_cards both_for_first (draw_and_ask s))
+Misled =
+    Brings fixed_rules two_cards both_for_first both_found draw_and_ask None
+    (WrongAnswer fixed_rules two_cards both_for_first both_found)
 
 -- What the closing answers after a hand count of both places.
 abbrev pub closed : Ballot → Answer
@@ -85,7 +86,7 @@ pub record Worked (risk count : ℕ) : Type 0 where
   pub bounded : 1000 * count ≤ risk * 2 ^ 1
   pub fits : Fits two_cards both_found
   pub opens : Opened both_for_first
-  pub before : AllByRecursion BeforeEscalation (draw_and_ask (1 ∷ []))
+  pub before : AllByRecursion BeforeEscalation (calls two_cards both_found draw_and_ask None (1 ∷ []))
   pub lost : closed both_found ≡ upheld (false ∷ [])
   pub won : closed (all_first (λ i. false)) ≡ upheld (true ∷ [])
   pub won_but_for_one : closed (all_first (λ i. i == 2)) ≡ upheld (false ∷ [])

@@ -1,23 +1,21 @@
 -- Audits that are opened by the contests' own assertions: their bound and their hand count in terms of the outcomes.
-use Rattle.std.specs.Prelude.{◌≡◌, ℕ, zero, suc, ◌+◌, ◌*◌, ◌^◌, ◌<◌, ◌≤◌, Bool, true, false, List, [], ◌∷◌, map, length, take, drop, Option, slice_index_or}
+use Rattle.std.specs.Prelude.{◌≡◌, ℕ, zero, suc, ◌+◌, ◌<◌, Bool, true, false, List, [], ◌∷◌, length, take, drop, slice_index_or}
 use Rattle.std.specs.List.{AllByRecursion}
 use Rattle.ballot.specs.declared.Candidate.{Candidate}
 use Rattle.ballot.specs.declared.Card.{Card}
 use Rattle.ballot.specs.declared.Contest.{Contest}
-use Rattle.ballot.specs.Contests.{assertion_count}
 use Rattle.ballot.specs.Votes.{TrulyWon}
 use Rattle.assertion.specs.declared.assertions.Assertion.{Assertion}
-use Rattle.assertion.specs.Assertions.{claim_of, each_stands, planned}
+use Rattle.assertion.specs.Assertions.{claim_of}
 use Rattle.assertion.specs.Values.{half_of}
 use Rattle.assorter.specs.Law.{JustWhen}
 use Rattle.assorter.specs.Values.{Holds, worth}
-use Rattle.chance.specs.Sequences.{sequences, Counted}
 use Rattle.betting.specs.Policies.{Chosen, chosen_bet, chosen_told}
 use Rattle.course.specs.Terms.{Terms}
-use Rattle.course.specs.Course.{Rules, State, Call, course}
+use Rattle.course.specs.Course.{Rules, State, Call}
 use Rattle.course.specs.Course.Answer.{upheld}
-use Rattle.course.specs.Scripts.{Ballot, Move, Hand, calls, draws_in}
-use Rattle.course.specs.Bounds.{Any, Contradicted, Fits, WrongAnswer}
+use Rattle.course.specs.Scripts.{Ballot}
+use Rattle.course.specs.Bounds.{AtMostBring, Contradicted, Fits, WrongAnswer}
 use Rattle.course.specs.Laws.{BeforeEscalation, closing_answer}
 
 -- The rules of a setup's own assertions and policies.
@@ -41,12 +39,6 @@ WonFrom j (suc k) (x ∷ xs) cs cards = WonFrom (j + 1) k xs (drop x.candidates 
 abbrev pub Won : ℕ → List Contest → List Candidate → List Card → Type 0
 Won k xs cs cards = WonFrom 0 k xs cs cards
 
--- The accounts are those of the contests' own assertions, in order.
-pub record OwnAccounts (xs : List Contest) (cs : List Candidate) (t : Terms) (σ : State Assertion Chosen) : Type 0 where
-  pub stand : each_stands xs cs ≡ true
-  pub parts_are : t.assertions ≡ map assertion_count xs
-  pub claims_are : map (λ x. claim_of x.assorter) σ.accounts ≡ map (λ plan. plan.claim) (planned 0 xs cs)
-
 module _ (xs : List Contest) (cs : List Candidate) (t : Terms) (σ : State Assertion Chosen) where
   -- The cards contradict a contest just when its reported winners did not truly win.
   abbrev pub ContradictedWhenLost : Type 0
@@ -58,10 +50,8 @@ module _ (xs : List Contest) (cs : List Candidate) (t : Terms) (σ : State Asser
   -- confirm, or uphold such a contest.
   abbrev pub LimitsWrongBoards : Type 0
   LimitsWrongBoards =
-      (b : Ballot) → Fits t b → (ms : List (Move t)) (hs : Option (List (Hand t))) (k : ℕ) →
-      (Won k xs cs b.cards → ⊥) → (m : ℕ) →
-      Counted (λ s. Any (WrongAnswer own_rules t σ b) (course own_rules t σ (calls t b ms hs s))) (sequences t.cards (draws_in ms)) m →
-      1000 * m ≤ t.limit * t.cards ^ draws_in ms
+      (b : Ballot) → Fits t b → (k : ℕ) → (Won k xs cs b.cards → ⊥) →
+      AtMostBring own_rules t σ b t.limit 1000 (WrongAnswer own_rules t σ b)
 
   -- Once each place was counted, with its card as it is or missing, the closing is answered. It upholds a contest only if
   -- its reported winners truly won, and, where no card is missing, exactly then.

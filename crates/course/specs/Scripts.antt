@@ -1,5 +1,5 @@
 -- Scripts: the calls of an audit, up to the places drawn.
-use Rattle.std.specs.Prelude.{◌≡◌, ℕ, suc, ◌-◌, Bool, cond, List, [], ◌∷◌, map, Some, None, Option, slice_index_or}
+use Rattle.std.specs.Prelude.{◌≡◌, ℕ, suc, ◌-◌, Bool, List, [], ◌∷◌, map, Some, None, Option, if◌then◌else◌, slice_index_or}
 use Rattle.refusal.specs.declared.Refusal.{Refusal}
 use Rattle.ballot.specs.declared.Card.{Card}
 use Rattle.course.specs.Terms.{Terms, Shown, blank_card, shown_refusal}
@@ -20,7 +20,7 @@ show_missing i = record { place = i; found = 0; card = blank_card }
 
 -- What the draw of a place shows.
 abbrev pub show_drawn : Ballot → ℕ → Shown
-show_drawn b i = cond (b.missing i) (show_missing i) (show_card b i)
+show_drawn b i = if b.missing i then show_missing i else show_card b i
 
 -- A call before the escalation: an entry of a drawn card, an entry that is refused for what it shows, or a verdict.
 pub data Move (t : Terms) : Type 0 where

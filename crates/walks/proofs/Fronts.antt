@@ -3,7 +3,10 @@ use borrow.Rule.Slice.PartMut.{put_mid}
 use Rattle.std.proofs.Common.{◌≡◌, ℕ, ◌+◌, ◌-◌, ◌<◌, min, List, [], ◌++◌, map, length, get_or, take, drop, set, sym, ap, ◌∙◌, arith}
 use Rattle.std.proofs.lemmas.List.{append-nil, drop-map, drop_all, drop_min, get_or-map, length-drop, map-append, map-set, take-map, take_all, take_min}
 use Rattle.std.proofs.lemmas.List.Edits.{map_over_more}
-use Rattle.walks.specs.Walks.{on_front}
+
+-- the first n of a list by f, the others as they are
+abbrev pub on_front : {X : Type 0} → (X → X) → ℕ → List X → List X
+on_front f n xs = map f (take n xs) ++ drop n xs
 
 -- m reads an element; the element r at i became h
 pub front_more :

@@ -1,5 +1,5 @@
 -- A card that is shown to the records, and what it does to one of them.
-use Rattle.std.specs.Prelude.{ℕ, List, ◌++◌, map, take, drop, Some, None, Option}
+use Rattle.std.specs.Prelude.{ℕ, List, Some, None, Option}
 use Rattle.std.specs.List.{prefix_len}
 use Rattle.ballot.specs.declared.Card.{Card}
 use Rattle.betting.specs.Accounts.{Account, cut}
@@ -20,10 +20,6 @@ seen worth None a = 0
 -- How many accounts in front are settled at the risk limit.
 abbrev pub settled_front : {A S : Type 0} → ℕ → List (Account A S) → ℕ
 settled_front limit xs = prefix_len (λ x. settled x.peak limit) xs
-
--- The first n of a list by f, the others as they are.
-abbrev pub on_front : {X : Type 0} → (X → X) → ℕ → List X → List X
-on_front f n xs = map f (take n xs) ++ drop n xs
 
 -- The account after an entry, as a record can hold it.
 abbrev pub entered : {A S : Type 0} → Rules A S → ℕ → Shown → Account A S → Account A S

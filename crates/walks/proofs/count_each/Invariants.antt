@@ -1,7 +1,8 @@
 use Rattle.std.proofs.Common.{◌≡◌, map, option_copied}
 use Rattle.betting.specs.Accounts.{account}
 use Rattle.course.specs.Course.{after_count, rules_of}
-use Rattle.walks.specs.Walks.{as_found, on_front}
+use Rattle.walks.specs.Walks.{as_found}
+use Rattle.walks.proofs.Fronts.{on_front}
 use Rattle.walks.proofs.count_each.Given as goal
 
 abbrev pub invariant-loop-held : goal.invariant-loop-held

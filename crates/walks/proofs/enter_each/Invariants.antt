@@ -1,7 +1,8 @@
 use Rattle.std.proofs.Common.{◌≡◌, ◌≤◌, map, option_copied}
 use Rattle.betting.specs.Accounts.{account}
 use Rattle.course.specs.Course.{after_entry, rules_of}
-use Rattle.walks.specs.Walks.{as_found, entered, on_front}
+use Rattle.walks.specs.Walks.{as_found, entered}
+use Rattle.walks.proofs.Fronts.{on_front}
 use Rattle.walks.proofs.enter_each.Given as goal
 
 abbrev pub invariant-loop-held : goal.invariant-loop-held

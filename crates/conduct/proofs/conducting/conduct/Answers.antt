@@ -1,6 +1,6 @@
-use Rattle.course.specs.Course.{Lawful, rules_of}
+use Rattle.course.specs.Course.{rules_of}
 use Rattle.course.proofs.BoundsAndLaws.{promised}
-use Rattle.course.proofs.Rules.{lawful_by}
+use Rattle.course.proofs.Rules.{Lawful, lawful_by}
 use Rattle.conduct.proofs.conducting.conduct.Given as given
 use Rattle.conduct.proofs.conducting.conduct.Goals as goal
 

@@ -1,6 +1,6 @@
-use Rattle.course.specs.Course.{Lawful, rules_of}
+use Rattle.course.specs.Course.{rules_of}
 use Rattle.course.proofs.Deciding.{counts_exist}
-use Rattle.course.proofs.Rules.{lawful_by}
+use Rattle.course.proofs.Rules.{Lawful, lawful_by}
 use Rattle.course.proofs.Theorem.{limits_risk, measures_risk}
 use Rattle.course.proofs.promises.bounds_stand.Given as given
 use Rattle.course.proofs.promises.bounds_stand.Goals as goal

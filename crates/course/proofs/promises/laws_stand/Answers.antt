@@ -1,5 +1,5 @@
-use Rattle.course.specs.Course.{Lawful, rules_of}
-use Rattle.course.proofs.Rules.{lawful_by}
+use Rattle.course.specs.Course.{rules_of}
+use Rattle.course.proofs.Rules.{Lawful, lawful_by}
 use Rattle.course.proofs.Closings.{counts_decide}
 use Rattle.course.proofs.Runs.{confirms_by_risk, counts_draws, settled_stays}
 use Rattle.course.proofs.Theorem.{never_upholds_wrongly}
