@@ -26,10 +26,9 @@ use Rattle.course.specs.Openings.{own_rules, OwnAccounts}
 use Rattle.course.proofs.Openings.{contradicted_when_lost, hand_count_decides, limits_wrong_boards}
 use Rattle.opening.specs.Starts.{after_start, any_fewer, fewer, start_answer, started}
 use Rattle.opening.proofs.Fills.{started_long}
-use Rattle.calls.specs.declared.states.Audit.{Audit}
-use Rattle.calls.specs.Calls.{audit_state}
+use Rattle.calls.specs.declared.drawing.Audit.{Audit}
+use Rattle.calls.specs.Calls.{audit_state, terms_of}
 use Rattle.calls.specs.Openings.{AlwaysPromised, AsPlanned, Begun, OfSetup, OwnAssertions, by_claim, plan_account}
-use Rattle.calls.specs.Shapes.{terms_of}
 use Rattle.calls.proofs.Plans.{all_of}
 use Rattle.calls.proofs.Refusals.{follows_course}
 
@@ -101,9 +100,8 @@ Unseen z = (z.wealth ≡ 1000000000) × (z.peak ≡ 1000000000) × (z.tally ≡ 
 
 unseen_fresh : (x : Account Assertion Chosen) → Unseen (by_claim x) → x ≡ opened x.assorter x.state
 unseen_fresh x h =
-    let to : ℕ → ℕ → ℕ → Account Assertion Chosen =
-    λ w p t. record { assorter = x.assorter; state = x.state; wealth = w; peak = p; tally = t } in
-    ap (λ w. to w x.peak x.tally) h.0 ∙ ap (λ p. to 1000000000 p x.tally) h.1 ∙ ap (to 1000000000 1000000000) h.2
+    ap (λ w. record x { wealth = w }) h.0 ∙ ap (λ p. record x { wealth = 1000000000; peak = p }) h.1
+    ∙ ap (λ n. record x { wealth = 1000000000; peak = 1000000000; tally = n }) h.2
 
 module _ (choice : PolicyChoice) (plans : List Plan) (ys : List (Account Assertion Chosen)) (same : map by_claim ys ≡ map (plan_account choice) plans) where
   planned_fresh : AllByRecursion (λ x. x ≡ opened x.assorter x.state) ys
