@@ -1,4 +1,4 @@
-use Rattle.std.proofs.Common.{◌≡◌, ◌+◌, ◌≤◌, map, length, None, Ok, ap, arith}
+use Rattle.std.proofs.Common.{◌≡◌, ◌+◌, ◌≤◌, map, length, None, Ok, ap, arith, rules}
 use Rattle.std.proofs.lemmas.Grind.{common_steps}
 use Rattle.betting.specs.Accounts.{account}
 use Rattle.course.specs.Course.{after_count, answered, rules_of, unless_refused}
@@ -19,7 +19,7 @@ returns-clause-course g c =
     let σ = count_state h (map m rs) in
     let lent : h.terms.needed ≤ length rs = grind (arith, common_steps) in
     let moved =
-    count_moved R e _ c.found_card.ensures m h.terms.needed rs c.count_each.new.records lent c.count_each.auto.records
+    count_moved R e _ (search rules) m h.terms.needed rs c.count_each.new.records lent c.count_each.auto.records
     c.count_each.ensures in
     let granted : first_refusal t (length rs) σ (hand_count e) ≡ None = grind (arith, common_steps) in
     let answer : in_code (called R t (length rs) σ (hand_count e))

@@ -1,4 +1,4 @@
-use Rattle.std.proofs.Common.{◌≡◌, ◌+◌, ◌≤◌, map, length, None, Ok, ap, arith}
+use Rattle.std.proofs.Common.{◌≡◌, ◌+◌, ◌≤◌, map, length, None, Ok, ap, arith, rules}
 use Rattle.std.proofs.lemmas.Grind.{common_steps}
 use Rattle.std.proofs.lemmas.List.{take-map}
 use Rattle.betting.specs.Accounts.{account}
@@ -21,7 +21,7 @@ returns-clause-course g c =
     let lent : a.terms.needed ≤ length rs = grind (arith, common_steps) in
     let settled = rw take-map at c.in_ok-first.ensures.before in
     let moved =
-    entry_moved R e _ c.found_card.ensures m a.terms.needed rs c.enter_from.new.records lent c.enter_from.auto.records
+    entry_moved R e _ (search rules) m a.terms.needed rs c.enter_from.new.records lent c.enter_from.auto.records
     _ t.limit (omega arith) a.terms.ranges.0 (λ low. c.enter_from.ensures.rules low settled) in
     let granted : first_refusal t (length rs) σ (entry e) ≡ None = grind (arith, common_steps) in
     let answer : in_code (called R t (length rs) σ (entry e))
