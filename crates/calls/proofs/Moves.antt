@@ -7,7 +7,7 @@ use Rattle.betting.specs.Accounts.{Account, played, tallied}
 use Rattle.course.specs.Terms.{Shown}
 use Rattle.course.specs.Course.{Rules, after_count, after_entry, shown_value}
 use Rattle.walks.specs.Walks.{as_found}
-use Rattle.calls.specs.Shapes.{found_card}
+use Rattle.calls.specs.Answers.{found_card}
 
 -- the first n elements of rs became ys; m reads an element
 module _ {Z X : Type 0} (m : Z → X) (n : ℕ) (rs ys : List Z) (enough : n ≤ length rs) (long : length ys ≡ length (take n rs)) where

@@ -26,10 +26,9 @@ use Rattle.course.specs.Openings.{own_rules}
 use Rattle.course.proofs.Openings.{contradicted_when_lost, hand_count_decides, limits_wrong_boards, OwnAccounts}
 use Rattle.opening.specs.Starts.{after_start, any_fewer, fewer, start_answer, started}
 use Rattle.opening.proofs.Fills.{started_long}
-use Rattle.calls.specs.declared.states.Audit.{Audit}
-use Rattle.calls.specs.Calls.{audit_state}
+use Rattle.calls.specs.declared.drawing.Audit.{Audit}
+use Rattle.calls.specs.Calls.{audit_state, terms_of}
 use Rattle.calls.specs.Openings.{AlwaysPromised, AsPlanned, Begun, OfSetup, OwnAssertions, by_claim, plan_account}
-use Rattle.calls.specs.Shapes.{terms_of}
 use Rattle.calls.proofs.Plans.{all_of}
 use Rattle.calls.proofs.Refusals.{follows_course}
 
@@ -46,7 +45,7 @@ relied_on s xs cs held = ∥∥₁_elim held (hlevel (props, fits_prop)) (openin
 -- ---- an audit that was started
 
 -- a start that was not refused had enough
-pub had_enough : (too_few : Bool) (done : Unit {0}) → Ok done ≡ start_answer too_few → too_few ≡ false
+had_enough : (too_few : Bool) (done : Unit {0}) → Ok done ≡ start_answer too_few → too_few ≡ false
 had_enough true done e = let z : ◌≡◌ {A = ℕ} 0 1 = cc in absurd (omega arith)
 had_enough false done e = refl
 
@@ -76,13 +75,13 @@ module _ {A S : Type 0} where
   started_fresh (x ∷ xs) (s ∷ ss) = (refl, started_fresh xs ss)
 
   -- the first n accounts were started
-  pub with_fresh :
+  with_fresh :
       (n : ℕ) (accounts : List (Account A S)) (xs : List A) (ss : List S) → take n accounts ≡ take n (started xs ss) →
       AllByRecursion Fresh (take n accounts)
   with_fresh n accounts xs ss e = subst (AllByRecursion Fresh) (sym e) (All-take Fresh n (started xs ss) (started_fresh xs ss))
 
 module _ {A P S : Type 0} (st : P → S) (xs : List A) (ps : List P) where
-  pub with_started :
+  with_started :
       {R : Type 0} (n : ℕ) (rs : List R) (old new : List (Account A S)) → any_fewer n xs ps rs ≡ false →
       new ≡ after_start (any_fewer n xs ps rs) n (take n (started xs (map st ps))) old →
       take n new ≡ take n (started xs (map st ps))
@@ -94,6 +93,17 @@ module _ {A P S : Type 0} (st : P → S) (xs : List A) (ps : List P) where
       ∙ take_at (take n ys) (drop n old) n
       (length-take-le n ys (started_long st xs ps n (ltb-false (length xs) n d.1) (ltb-false (length ps) n b.1)))
 
+  -- as many as were asked for, n of them, have seen no card
+  pub fresh_start :
+      {R : Type 0} (asked n : ℕ) (rs : List R) (old new : List (Account A S)) (done : Unit {0}) → asked ≡ n →
+      Ok done ≡ start_answer (any_fewer asked xs ps rs) →
+      new ≡ after_start (any_fewer asked xs ps rs) asked (take asked (started xs (map st ps))) old →
+      AllByRecursion Fresh (take n new)
+  fresh_start asked n rs old new done same answer e =
+      let enough = had_enough (any_fewer asked xs ps rs) done answer in
+      subst (λ k. AllByRecursion Fresh (take k new)) same
+      (with_fresh asked new xs (map st ps) (with_started asked rs old new enough e))
+
 -- ---- with the contests' own assertions
 
 abbrev Unseen : Account Claim Chosen → Type 0
@@ -101,9 +111,8 @@ Unseen z = (z.wealth ≡ 1000000000) × (z.peak ≡ 1000000000) × (z.tally ≡ 
 
 unseen_fresh : (x : Account Assertion Chosen) → Unseen (by_claim x) → x ≡ opened x.assorter x.state
 unseen_fresh x h =
-    let to : ℕ → ℕ → ℕ → Account Assertion Chosen =
-    λ w p t. record { assorter = x.assorter; state = x.state; wealth = w; peak = p; tally = t } in
-    ap (λ w. to w x.peak x.tally) h.0 ∙ ap (λ p. to 1000000000 p x.tally) h.1 ∙ ap (to 1000000000 1000000000) h.2
+    ap (λ w. record x { wealth = w }) h.0 ∙ ap (λ p. record x { wealth = 1000000000; peak = p }) h.1
+    ∙ ap (λ n. record x { wealth = 1000000000; peak = 1000000000; tally = n }) h.2
 
 module _ (choice : PolicyChoice) (plans : List Plan) (ys : List (Account Assertion Chosen)) (same : map by_claim ys ≡ map (plan_account choice) plans) where
   planned_fresh : AllByRecursion (λ x. x ≡ opened x.assorter x.state) ys

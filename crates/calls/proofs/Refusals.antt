@@ -5,7 +5,7 @@ use Rattle.refusal.specs.declared.Refusal.TheVariants.{NoRoom}
 use Rattle.course.specs.Terms.{Terms}
 use Rattle.course.specs.Course.Call.{entry, verdict, escalation, hand_count, closing}
 use Rattle.course.specs.Course.{Rules, State, Call, answered, refusal_of, step, unless_refused}
-use Rattle.calls.specs.Calls.{FollowsCourse, all_called, called, records_for}
+use Rattle.calls.specs.Calls.{all_called, called, FollowsCourse, records_for}
 
 -- a record for each assertion is as many as any call needs
 pub enough : (t : Terms) (lent : ℕ) (c : Call) → sum t.assertions ≤ lent → records_for t c ≤ lent

@@ -14,8 +14,8 @@ use Rattle.course.specs.Laws.{left_by}
 use Rattle.course.proofs.Runs.{confirms_by_risk, counts_draws}
 use Rattle.calls.specs.declared.answers.Answer.{Answer}
 use Rattle.calls.specs.declared.answers.Answer.TheVariants.{Finding}
-use Rattle.calls.specs.Answers.{in_code}
-use Rattle.calls.specs.Calls.{ConfirmsByRisk, CountsEntries, called, first_refusal}
+use Rattle.calls.specs.Answers.{ConfirmsByRisk, CountsEntries}
+use Rattle.calls.specs.Calls.{called, first_refusal, in_code}
 
 module _ {A S : Type 0} (R : Rules A S) (t : Terms) (σ : State A S) where
   abbrev found : Verdict

@@ -1,61 +1,43 @@
--- The code's calls and answers in the words of an audit's course.
-use Rattle.std.specs.Prelude.{◌≡◌, ℕ, List, Ok, Err, Result}
+-- What is said of a call's answer beside the course's equation.
+use Rattle.std.specs.Prelude.{◌≡◌, ◌==◌, ℕ, ◌≤◌, List, Some, None, Ok, Err, Option, Result, if◌then◌else◌}
+use Rattle.std.specs.List.{AllByRecursion}
 use Rattle.refusal.specs.declared.Refusal.{Refusal}
-use Rattle.verdict.specs.Contests.{closing_on, verdict_on}
-use Rattle.betting.specs.Accounts.{Account}
-use Rattle.course.specs.Course as course
+use Rattle.ballot.specs.declared.Card.{Card}
+use Rattle.assorter.specs.Law.{JustWhen}
+use Rattle.verdict.specs.declared.Finding.TheVariants.{Confirm}
+use Rattle.verdict.specs.declared.Verdict.{Verdict}
+use Rattle.verdict.specs.Contests.{contest_risks}
+use Rattle.course.specs.Terms.{Shown, Terms}
 use Rattle.course.specs.Course.{Call, Rules, State}
-use Rattle.course.specs.Course.Call.{entry, verdict, escalation, hand_count, closing}
-use Rattle.course.specs.Course.Answer.{refused, taken, finding, upheld}
-use Rattle.calls.specs.declared.answers.Answer.{Answer}
-use Rattle.calls.specs.declared.answers.Answer.TheVariants.{Taken, Finding, Upheld}
-use Rattle.calls.specs.declared.answers.CountCall.{CountCall}
-use Rattle.calls.specs.declared.answers.CountCall.TheVariants.{Count, Close}
-use Rattle.calls.specs.declared.answers.DrawCall.{DrawCall}
-use Rattle.calls.specs.declared.answers.DrawCall.TheVariants.{Entry, Verdict}
-use Rattle.calls.specs.declared.answers.Standing.{Standing}
-use Rattle.calls.specs.declared.answers.Standing.TheVariants.{Drawing, Counting}
-use Rattle.calls.specs.declared.states.Audit.{Audit}
-use Rattle.calls.specs.declared.states.HandCount.{HandCount}
-use Rattle.calls.specs.declared.terms.Terms.{Terms}
-use Rattle.calls.specs.Calls.{audit_state, called, count_state}
-use Rattle.calls.specs.Shapes.{shown_of, terms_of}
+use Rattle.course.specs.Bounds.{Opened}
+use Rattle.course.specs.Laws.{left_by, taken_entries}
 
-abbrev pub draw_call : DrawCall → Call
-draw_call (Entry x) = entry (shown_of x)
-draw_call Verdict = verdict
+-- The card, where it is not missing.
+abbrev pub found_card : Shown → Option Card
+found_card e = if e.found == 0 then None else Some e.card
 
-abbrev pub count_call : CountCall → Call
-count_call (Count x) = hand_count (shown_of x)
-count_call Close = closing
+-- The refusal, if there is one.
+abbrev pub refusal_in : {Y : Type 0} → Result Y Refusal → Option Refusal
+refusal_in (Ok y) = None
+refusal_in (Err e) = Some e
 
--- What the code answers where the course answers this, to the last place.
-abbrev pub code_answer : course.Answer → Result Answer Refusal
-code_answer (refused e) = Err e
-code_answer taken = Ok Taken
-code_answer (finding f d rs) = Ok (Finding (verdict_on f d rs))
-code_answer (upheld us) = Ok (Upheld (closing_on us))
+-- A refusal leaves all as it was.
+abbrev pub KeptOnRefusal : {X Y : Type 0} → Result Y Refusal → X → X → Type 0
+KeptOnRefusal (Ok y) before after = Unit {0}
+KeptOnRefusal (Err e) before after = after ≡ before
 
--- The same with the state that is left.
-abbrev pub in_code : {A S : Type 0} → State A S × course.Answer → State A S × Result Answer Refusal
-in_code x = (x.0, code_answer x.1)
+-- A verdict's draw count is at most the draw limit.
+abbrev pub DrawsWithin : ℕ → Result Verdict Refusal → Type 0
+DrawsWithin most (Ok v) = v.draws ≤ most
+DrawsWithin most (Err e) = Unit {0}
 
--- An answer of one call as an answer of any.
-abbrev pub answer_as : {X : Type 0} → (X → Answer) → Result X Refusal → Result Answer Refusal
-answer_as f (Ok x) = Ok (f x)
-answer_as f (Err e) = Err e
+-- A verdict confirms just when each contest's risk is at most the risk limit.
+abbrev pub ConfirmsByRisk : ℕ → Result Verdict Refusal → Type 0
+ConfirmsByRisk limit (Ok v) = JustWhen (v.finding ≡ Confirm) (AllByRecursion (λ r. r ≤ limit) (contest_risks v))
+ConfirmsByRisk limit (Err e) = Unit {0}
 
-abbrev pub standing_terms : Standing → Terms
-standing_terms (Drawing a) = a.terms
-standing_terms (Counting h) = h.terms
-
-abbrev pub standing_state : {A S : Type 0} → Standing → List (Account A S) → State A S
-standing_state (Drawing a) xs = audit_state a xs
-standing_state (Counting h) xs = count_state h xs
-
--- The hand count stands where the course leaves the audit for an escalation, which is granted, whatever accounts are lent
--- and however few.
-abbrev pub Escalated : {A S : Type 0} → Rules A S → Audit → HandCount → Type 0
-Escalated R a h =
-    (lent : ℕ) (xs : List (Account _ _)) →
-    (count_state h xs, Ok Taken) ≡ in_code (called R (terms_of a.terms) lent (audit_state a xs) escalation)
+-- Where calls on an audit just opened leave this state, a verdict's draw count is the number of entries that were taken.
+abbrev pub CountsEntries : {A S : Type 0} → Rules A S → Terms → State A S → Result Verdict Refusal → Type 0
+CountsEntries R t τ (Ok v) =
+    (σ : State _ _) → Opened σ → (cs : List Call) → left_by R t σ cs ≡ τ → v.draws ≡ taken_entries R t σ cs
+CountsEntries R t τ (Err e) = Unit {0}

@@ -1,41 +1,73 @@
--- What each call of an audit answers and leaves, by the audit's course.
-use Rattle.std.specs.Prelude.{◌≡◌, ℕ, ◌≤◌, List, [], ◌∷◌, map, take, Some, None, Ok, Err, sum, Option, Result, if◌then◌else◌, nat_lt}
+-- From the code to an audit's course: its terms, cards, calls, states and answers in the words of the course, and what each
+-- call leaves and answers. A record counts by its `account`.
+use Rattle.std.specs.Prelude.{◌≡◌, ℕ, ◌≤◌, List, [], ◌∷◌, map, take, Some, Ok, Err, sum, Option, Result, if◌then◌else◌, nat_lt}
 use Rattle.std.specs.List.{AllByRecursion}
 use Rattle.refusal.specs.declared.Refusal.{Refusal}
 use Rattle.refusal.specs.declared.Refusal.TheVariants.{NoRoom}
+use Rattle.ballot.specs.declared.Card.{Card}
 use Rattle.betting.specs.Accounts.{Account}
-use Rattle.assorter.specs.Law.{JustWhen}
-use Rattle.verdict.specs.declared.Finding.TheVariants.{Confirm}
-use Rattle.verdict.specs.declared.Verdict.{Verdict}
-use Rattle.verdict.specs.Contests.{contest_risks}
-use Rattle.course.specs.Terms.{Terms}
-use Rattle.course.specs.Course.{Rules, State, Call, Answer, answered, course, refusal_of, unless_refused}
-use Rattle.course.specs.Course.Call.{escalation}
-use Rattle.course.specs.Bounds.{Opened}
-use Rattle.course.specs.Laws.{left_by, taken_entries}
-use Rattle.calls.specs.declared.states.Audit.{Audit}
-use Rattle.calls.specs.declared.states.HandCount.{HandCount}
+use Rattle.verdict.specs.Contests.{closing_on, verdict_on}
+use Rattle.course.specs.Terms.{Shown, Terms}
+use Rattle.course.specs.Course.{Answer, Call, Rules, State, answered, course, refusal_of, unless_refused}
+use Rattle.course.specs.Course.Answer.{refused, taken, finding, upheld}
+use Rattle.course.specs.Course.Call.{entry, verdict, escalation, hand_count, closing}
+use Rattle.calls.specs.declared.answers.Answer.{Answer as CodeAnswer}
+use Rattle.calls.specs.declared.answers.Answer.TheVariants.{Taken, Finding, Upheld}
+use Rattle.calls.specs.declared.answers.CountCall.{CountCall}
+use Rattle.calls.specs.declared.answers.CountCall.TheVariants.{Count, Close}
+use Rattle.calls.specs.declared.answers.DrawCall.{DrawCall}
+use Rattle.calls.specs.declared.answers.DrawCall.TheVariants.{Entry, Verdict}
+use Rattle.calls.specs.declared.answers.Shown.{Shown as CodeShown}
+use Rattle.calls.specs.declared.answers.Standing.{Standing}
+use Rattle.calls.specs.declared.answers.Standing.TheVariants.{Drawing, Counting}
+use Rattle.calls.specs.declared.counting.HandCount.{HandCount}
+use Rattle.calls.specs.declared.drawing.Audit.{Audit}
+use Rattle.calls.specs.declared.terms.Terms.{Terms as CodeTerms}
 
--- The refusal, if there is one.
-abbrev pub refusal_in : {Y : Type 0} → Result Y Refusal → Option Refusal
-refusal_in (Ok y) = None
-refusal_in (Err e) = Some e
+-- ---- terms, cards and calls
 
--- A verdict's draw count is at most the draw limit.
-abbrev pub DrawsWithin : ℕ → Result Verdict Refusal → Type 0
-DrawsWithin most (Ok v) = v.draws ≤ most
-DrawsWithin most (Err e) = Unit {0}
+abbrev pub terms_of : CodeTerms → Terms
+terms_of t = record {
+  cards = t.cards;
+  limit = t.risk_limit;
+  draws = t.draw_limit;
+  candidates = map (λ x. x.candidates) t.sizes.items;
+  assertions = map (λ x. x.assertions) t.sizes.items;
+}
 
--- A verdict confirms just when each contest's risk is at most the risk limit.
-abbrev pub ConfirmsByRisk : ℕ → Result Verdict Refusal → Type 0
-ConfirmsByRisk limit (Ok v) = JustWhen (v.finding ≡ Confirm) (AllByRecursion (λ r. r ≤ limit) (contest_risks v))
-ConfirmsByRisk limit (Err e) = Unit {0}
+abbrev pub shown : ℕ → ℕ → Card → Shown
+shown p f x = record { place = p; found = f; card = x }
 
--- Where calls on an audit just opened leave this state, a verdict's draw count is the number of entries that were taken.
-abbrev pub CountsEntries : {A S : Type 0} → Rules A S → Terms → State A S → Result Verdict Refusal → Type 0
-CountsEntries R t τ (Ok v) =
-    (σ : State _ _) → Opened σ → (cs : List Call) → left_by R t σ cs ≡ τ → v.draws ≡ taken_entries R t σ cs
-CountsEntries R t τ (Err e) = Unit {0}
+abbrev pub shown_of : CodeShown → Shown
+shown_of x = shown x.place x.found x.card
+
+abbrev pub draw_call : DrawCall → Call
+draw_call (Entry x) = entry (shown_of x)
+draw_call Verdict = verdict
+
+abbrev pub count_call : CountCall → Call
+count_call (Count x) = hand_count (shown_of x)
+count_call Close = closing
+
+-- ---- answers
+
+-- What the code answers where the course answers this, to the last place.
+abbrev pub code_answer : Answer → Result CodeAnswer Refusal
+code_answer (refused e) = Err e
+code_answer taken = Ok Taken
+code_answer (finding f d rs) = Ok (Finding (verdict_on f d rs))
+code_answer (upheld us) = Ok (Upheld (closing_on us))
+
+-- The same with the state that is left.
+abbrev pub in_code : {A S : Type 0} → State A S × Answer → State A S × Result CodeAnswer Refusal
+in_code x = (x.0, code_answer x.1)
+
+-- An answer of one call as an answer of any.
+abbrev pub answer_as : {X : Type 0} → (X → CodeAnswer) → Result X Refusal → Result CodeAnswer Refusal
+answer_as f (Ok x) = Ok (f x)
+answer_as f (Err e) = Err e
+
+-- ---- states, and what a call leaves and answers
 
 -- How many records a call needs: one for each assertion, and none for an escalation.
 abbrev pub records_for : Terms → Call → ℕ
@@ -75,7 +107,19 @@ module _ {A S : Type 0} where
       (xs : List LentCall) → AllByRecursion (λ x. records_for t x.call ≤ x.lent) xs →
       all_called R t σ xs ≡ course R t σ (map (λ x. x.call) xs)
 
--- A refusal leaves all as it was.
-abbrev pub KeptOnRefusal : {X Y : Type 0} → Result Y Refusal → X → X → Type 0
-KeptOnRefusal (Ok y) before after = Unit {0}
-KeptOnRefusal (Err e) before after = after ≡ before
+  -- The hand count stands where the course leaves the audit for an escalation, which is granted, whatever accounts are lent
+  -- and however few.
+  abbrev pub Escalated : Rules A S → Audit → HandCount → Type 0
+  Escalated R a h =
+      (lent : ℕ) (xs : List (Account A S)) →
+      (count_state h xs, Ok Taken) ≡ in_code (called R (terms_of a.terms) lent (audit_state a xs) escalation)
+
+  -- ---- at either stage
+
+  abbrev pub standing_state : Standing → List (Account A S) → State A S
+  standing_state (Drawing a) xs = audit_state a xs
+  standing_state (Counting h) xs = count_state h xs
+
+abbrev pub standing_terms : Standing → CodeTerms
+standing_terms (Drawing a) = a.terms
+standing_terms (Counting h) = h.terms

@@ -21,11 +21,10 @@ use Rattle.course.specs.Bounds.{Opened}
 use Rattle.course.specs.Openings.{ContradictedWhenLost, HandCountDecides, LimitsWrongBoards}
 use Rattle.course.specs.Promise.{Promised}
 use Rattle.opening.specs.Starts.{started}
-use Rattle.calls.specs.declared.opened.NotOpened.{NotOpened}
-use Rattle.calls.specs.declared.states.Audit.{Audit}
+use Rattle.calls.specs.declared.opens.NotOpened.{NotOpened}
+use Rattle.calls.specs.declared.drawing.Audit.{Audit}
 use Rattle.calls.specs.declared.terms.Size.{Size}
-use Rattle.calls.specs.Calls.{FollowsCourse, audit_state}
-use Rattle.calls.specs.Shapes.{terms_of}
+use Rattle.calls.specs.Calls.{audit_state, FollowsCourse, terms_of}
 
 abbrev pub size_of : Contest → Size
 size_of x = record { candidates = x.candidates; assertions = assertion_count x }

@@ -1,8 +1,6 @@
 //! What the calls of an audit are shown and answer, and where they leave it.
-ghost use Rattle.std.specs.Prelude.{◌≡◌, option_copied};
-ghost use Rattle.calls.specs.Shapes.{found_card, shown_of};
-
-use crate::states::{Audit, HandCount};
+use crate::counting::HandCount;
+use crate::drawing::Audit;
 use ballot::Card;
 use verdict::{Closing, Verdict};
 
@@ -17,6 +15,10 @@ pub struct Shown {
 }
 
 impl Shown {
+    ghost use Rattle.std.specs.Prelude.{◌≡◌, option_copied};
+    ghost use Rattle.calls.specs.Answers.{found_card};
+    ghost use Rattle.calls.specs.Calls.{shown_of};
+
     /// The card, if it was found.
     pub(crate) fn found_card(&self) -> Option<&Card>
         ensures { option_copied result ≡ found_card (shown_of self.now) }

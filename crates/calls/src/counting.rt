@@ -1,23 +1,35 @@
-//! The calls of a full hand count.
-ghost use Rattle.std.specs.Prelude.{◌≡◌, map, length, drop};
-ghost use Rattle.betting.specs.Accounts.{account};
-ghost use Rattle.course.specs.Course.{rules_of};
-ghost use Rattle.course.specs.Course.Call.{closing, hand_count};
-ghost use Rattle.calls.specs.Calls.{called, count_state, first_refusal, KeptOnRefusal, refusal_in};
-ghost use Rattle.calls.specs.declared.answers.Answer.TheVariants as answer;
-ghost use Rattle.calls.specs.Answers.{answer_as, in_code};
-ghost use Rattle.calls.specs.Shapes.{shown_of, terms_of};
+//! An audit that counts every card by hand, and its calls.
+ghost use Rattle.std.specs.Prelude.{◌≡◌, ◌≤◌};
 
 use crate::answers::Shown;
-use crate::states::HandCount;
-use crate::terms::{check_shown, contests_above};
+use crate::terms::{Terms, check_shown, contests_above};
 use assorter::Assorter;
 use betting::{Policy, Record};
 use refusal::Refusal;
 use verdict::Closing;
 use walks::count_each;
 
+/// An audit that was escalated: every card is counted by hand.
+#[derive(Drop)]
+pub struct HandCount {
+    pub(crate) terms: Terms,
+    /// How many entries were taken before the escalation.
+    // No code reads it: it keeps the draw count that the course's state has.
+    pub(crate) drawn: u16,
+    /// How many cards were counted.
+    pub(crate) counted: u16,
+    ghost places: { counted ≤ terms.cards },
+}
+
 impl HandCount {
+    ghost use Rattle.std.specs.Prelude.{map, length, drop};
+    ghost use Rattle.betting.specs.Accounts.{account};
+    ghost use Rattle.course.specs.Course.{rules_of};
+    ghost use Rattle.course.specs.Course.Call.{closing, hand_count};
+    ghost use Rattle.calls.specs.Answers.{KeptOnRefusal, refusal_in};
+    ghost use Rattle.calls.specs.Calls.{answer_as, called, count_state, first_refusal, in_code, shown_of, terms_of};
+    ghost use Rattle.calls.specs.declared.answers.Answer.TheVariants as answer;
+
     /// Refuses a count with its first refusal.
     fn check_count<A, P: Policy>(
         &self,

@@ -1,26 +1,46 @@
-//! The calls of an audit that draws cards.
-ghost use Rattle.std.specs.Prelude.{◌≡◌, ◌≤◌, map, length, take, drop, IfOk, IfSome, IsTrue, if◌then◌else◌};
-ghost use Rattle.betting.specs.Accounts.{account};
-ghost use Rattle.course.specs.Course.{all_settled, no_draws_left, rules_of};
-ghost use Rattle.course.specs.Course.Call.{entry, verdict};
+//! An audit that draws cards, and its calls.
+ghost use Rattle.std.specs.Prelude.{◌≡◌, ◌≤◌, if◌then◌else◌};
 ghost use Rattle.verdict.specs.declared.Finding.TheVariants.{Confirm, Continue, FullHandCount};
-ghost use Rattle.calls.specs.Calls.{audit_state, called, ConfirmsByRisk, CountsEntries, DrawsWithin, first_refusal, KeptOnRefusal, refusal_in};
-ghost use Rattle.calls.specs.declared.answers.Answer.TheVariants as answer;
-ghost use Rattle.course.specs.Openings.{own_rules};
-ghost use Rattle.calls.specs.Answers.{answer_as, Escalated, in_code};
-ghost use Rattle.calls.specs.Shapes.{shown_of, terms_of};
-ghost use Rattle.walks.specs.Walks.{settled_front};
 
 use crate::answers::Shown;
-use crate::states::{Audit, HandCount};
-use crate::terms::{check_shown, contest_risks};
+use crate::counting::HandCount;
+use crate::terms::{Terms, check_shown, contest_risks};
 use assorter::Assorter;
 use betting::{Policy, Record};
 use refusal::Refusal;
 use verdict::{Finding, Verdict};
 use walks::{each_settled, enter_from, first_unsettled};
 
+/// An audit that draws cards. It is plain numbers; the records are lent at each call.
+// Each call asks anew whether the records lent are enough: they are lent at each call, by a rule of
+// the project, and no fact can be kept beside a lent `&mut`, since the prover has no rules of
+// borrowing for a ghost field there.
+#[derive(Drop)]
+pub struct Audit {
+    pub(crate) terms: Terms,
+    /// How many entries were taken.
+    pub(crate) drawn: u16,
+    ghost spent: { drawn ≤ terms.draw_limit },
+}
+
 impl Audit {
+    ghost use Rattle.std.specs.Prelude.{map, length, take, drop, sum, IfOk, IfSome, IsTrue};
+    ghost use Rattle.betting.specs.Accounts.{account};
+    ghost use Rattle.course.specs.Course.{all_settled, no_draws_left, rules_of};
+    ghost use Rattle.course.specs.Course.Call.{entry, verdict};
+    ghost use Rattle.course.specs.Openings.{own_rules};
+    ghost use Rattle.walks.specs.Walks.{settled_front};
+    ghost use Rattle.calls.specs.Answers.{ConfirmsByRisk, CountsEntries, DrawsWithin, KeptOnRefusal, refusal_in};
+    ghost use Rattle.calls.specs.Calls.{answer_as, audit_state, called, Escalated, first_refusal, in_code, shown_of, terms_of};
+    ghost use Rattle.calls.specs.declared.answers.Answer.TheVariants as answer;
+
+    /// How many records each call needs: one for each assertion.
+    pub fn records_needed(&self) -> usize
+        ensures { result ≡ sum (terms_of self.now.terms).assertions }
+    {
+        self.terms.needed
+    }
+
     /// The first of its own records that wants a draw; none where none does, or the draws are spent.
     fn first_to_draw<A, P: Policy>(&self, own: &[Record<A, P>]) -> Option<usize>
         requires { length own.now ≤ self.now.terms.needed }

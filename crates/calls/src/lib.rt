@@ -6,15 +6,12 @@ mod accepted;
 mod answers;
 mod counting;
 mod drawing;
-mod lending;
-mod opened;
 mod opens;
 mod stage;
-mod states;
 mod terms;
 
 pub use answers::{Answer, CountCall, DrawCall, Shown, Standing};
-pub use opened::NotOpened;
-pub use opens::{open, open_with};
+pub use counting::HandCount;
+pub use drawing::Audit;
+pub use opens::{NotOpened, open, open_with};
 pub use stage::Stage;
-pub use states::{Audit, HandCount};

@@ -5,22 +5,26 @@ ghost use Rattle.betting.specs.Accounts.{account};
 ghost use Rattle.betting.specs.Policies.{chosen_state};
 ghost use Rattle.course.specs.Course.{rules_of};
 ghost use Rattle.course.specs.Openings.{own_rules};
-ghost use Rattle.opening.specs.Starts.{any_fewer, fewer, RefusedUnchanged, start_answer};
-ghost use Rattle.calls.specs.Openings.{AlwaysPromised, BegunIfOpened, KeepsOthers, OfSetup, Opens, OwnIfOpened, PlansIfStarted, StartsWith};
+ghost use Rattle.opening.specs.Starts.{any_fewer, fewer};
+ghost use Rattle.calls.specs.Openings.{BegunIfOpened, KeepsOthers, Opens, OwnIfOpened, StartsWith};
 
 use crate::accepted::Accepted;
-use crate::opened::NotOpened;
-use crate::states::Audit;
+use crate::drawing::Audit;
 use acceptance::holds_setup;
-use assertion::{Assertion, Planned, list_assertions};
+use assertion::Assertion;
 use assorter::Assorter;
-use ballot::limits::ASSERTIONS;
 use ballot::{Candidate, Contest};
 use betting::{ChosenPolicy, Policy, Record};
-use bounded::List;
-use opening::{start_records, start_with};
+use opening::start_with;
 use refusal::Refusal;
 use setup::setup::Setup;
+
+/// A setup that was not opened, and is given back.
+#[derive(Drop)]
+pub struct NotOpened {
+    pub refusal: Refusal,
+    pub setup: Setup,
+}
 
 /// The refusal of what holds no accepted setup.
 fn no_setup(setup: Setup) -> NotOpened
@@ -29,33 +33,6 @@ fn no_setup(setup: Setup) -> NotOpened
     NotOpened {
         refusal: Refusal::NoSetup,
         setup,
-    }
-}
-
-impl Accepted<'_> {
-    /// An audit that has drawn nothing.
-    fn begin<A: Assorter, P: Policy>(&self) -> Audit
-        ensures terms { OfSetup self.now.setup.now self.now.contests.now result }
-        ensures promise { AlwaysPromised (rules_of A.Assorter P.Policy) result }
-    {
-        Audit {
-            terms: self.terms(),
-            drawn: 0,
-        }
-    }
-
-    /// Starts a record for each assertion that the contests make, in order.
-    fn start_own(&self, records: &mut [Record<Assertion, ChosenPolicy>]) -> Result<(), Refusal>
-        ensures answer { result ≡ start_answer (fewer self.now.setup.now.assertions records.old) }
-        ensures accounts { PlansIfStarted self.now.setup.now self.now.contests.now self.now.candidates.now (map (account chosen_state) records.new) result }
-        ensures beyond { drop self.now.setup.now.assertions records.new ≡ drop self.now.setup.now.assertions records.old }
-        ensures refused { RefusedUnchanged result records.old records.new }
-    {
-        // Fixed memory for the list, since nothing here allocates.
-        let mut slots = [Planned::BLANK; ASSERTIONS as usize];
-        let mut planned = List::over(&mut slots);
-        list_assertions(self.contests, self.candidates, &mut planned)?;
-        start_records(planned.items(), self.setup.terms.policy, records)
     }
 }
 

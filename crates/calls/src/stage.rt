@@ -4,12 +4,12 @@ ghost use Rattle.betting.specs.Accounts.{Account, account};
 ghost use Rattle.course.specs.Course as course;
 ghost use Rattle.course.specs.Course.{rules_of, State};
 ghost use Rattle.calls.specs.declared.terms.Terms.{Terms};
-ghost use Rattle.calls.specs.Answers.{count_call, draw_call, in_code};
-ghost use Rattle.calls.specs.Calls.{audit_state, called, count_state, KeptOnRefusal};
-ghost use Rattle.calls.specs.Shapes.{terms_of};
+ghost use Rattle.calls.specs.Answers.{KeptOnRefusal};
+ghost use Rattle.calls.specs.Calls.{audit_state, called, count_call, count_state, draw_call, in_code, terms_of};
 
 use crate::answers::{Answer, CountCall, DrawCall};
-use crate::states::{Audit, HandCount};
+use crate::counting::HandCount;
+use crate::drawing::Audit;
 use assorter::Assorter;
 use betting::{Policy, Record};
 use refusal::Refusal;

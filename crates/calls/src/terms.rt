@@ -3,7 +3,6 @@ ghost use Rattle.refusal.specs.declared.Refusal.TheVariants.{NoRoom};
 
 mod contests;
 mod showing;
-mod starting;
 
 use arrayvec::ArrayVec;
 use ballot::limits::CONTESTS;
@@ -29,6 +28,7 @@ pub(crate) struct Terms {
     /// How many assertions there are in all contests.
     pub(crate) needed: usize,
     ghost ranges: { (10 ≤ risk_limit) × (risk_limit ≤ 500) × (draw_limit ≤ 20000) × (length sizes.items ≤ 8) × (cards ≤ 65535) },
+    ghost a_card: { 1 ≤ cards },
     ghost total: { needed ≡ sum (map (λ x. x.assertions) sizes.items) },
 }
 

@@ -7,10 +7,8 @@ use Rattle.course.specs.Course.{Rules, State, Call, step}
 use Rattle.course.specs.Laws.{left_by}
 use Rattle.calls.specs.declared.terms.Terms as calls
 use Rattle.calls.specs.declared.answers.Answer.{Answer}
-use Rattle.calls.specs.Answers.{in_code}
-use Rattle.calls.specs.Calls.{called}
+use Rattle.calls.specs.Calls.{called, in_code, terms_of}
 use Rattle.conduct.specs.Conducts.{answers_by}
-use Rattle.calls.specs.Shapes.{terms_of}
 use Rattle.calls.proofs.Refusals.{called_step, enough}
 
 module _ {A S : Type 0} (R : Rules A S) (t : Terms) (σ₀ : State A S) (cs : List Call) where

@@ -3,7 +3,7 @@ use Rattle.std.proofs.Common.{◌≡◌, List, [], ◌∷◌, ◌++◌, refl, ap
 use Rattle.course.specs.Terms.{Terms}
 use Rattle.course.specs.Course.{Rules, State, Call, step}
 use Rattle.course.specs.Laws.{left_by}
-use Rattle.calls.specs.Answers.{code_answer}
+use Rattle.calls.specs.Calls.{code_answer}
 use Rattle.conduct.specs.Conducts.{answers_by}
 
 module _ {A S : Type 0} (R : Rules A S) (t : Terms) where

@@ -14,10 +14,8 @@ use Rattle.calls.specs.declared.answers.DrawCall.{DrawCall}
 use Rattle.conduct.specs.declared.outcome.NotConducted.{NotConducted}
 use Rattle.calls.specs.declared.answers.Standing.{Standing}
 use Rattle.calls.specs.declared.answers.Standing.TheVariants.{Drawing, Counting}
-use Rattle.calls.specs.declared.states.Audit.{Audit}
-use Rattle.calls.specs.Answers.{code_answer, count_call, draw_call, standing_state, standing_terms}
-use Rattle.calls.specs.Calls.{audit_state}
-use Rattle.calls.specs.Shapes.{terms_of}
+use Rattle.calls.specs.declared.drawing.Audit.{Audit}
+use Rattle.calls.specs.Calls.{audit_state, code_answer, count_call, draw_call, standing_state, standing_terms, terms_of}
 
 -- The calls after those of the draws: none, or the escalation and those of the hand count.
 abbrev pub later_calls : Option (Bor (List CountCall)) → List Call

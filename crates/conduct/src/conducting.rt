@@ -5,10 +5,8 @@ ghost use Rattle.course.specs.Course.{rules_of};
 ghost use Rattle.course.specs.Course.Call.{escalation};
 ghost use Rattle.course.specs.Laws.{left_by};
 ghost use Rattle.course.specs.Promise.{Promised};
-ghost use Rattle.calls.specs.Answers.{count_call};
-ghost use Rattle.calls.specs.Calls.{audit_state, count_state};
+ghost use Rattle.calls.specs.Calls.{audit_state, count_call, count_state, terms_of};
 ghost use Rattle.conduct.specs.Conducts.{all_calls, answers_by, conduct_refusal, Conducted, Conducts, KeptUnless, not_conducted, StandsBy, StandsIfConducted};
-ghost use Rattle.calls.specs.Shapes.{terms_of};
 
 use crate::outcome::NotConducted;
 use assorter::Assorter;

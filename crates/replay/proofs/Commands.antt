@@ -13,7 +13,7 @@ use Rattle.course.specs.Course.{Rules, State, Call, course, step}
 use Rattle.course.specs.Laws.{left_by}
 use Rattle.refusal.specs.declared.Refusal.{Refusal}
 use Rattle.calls.specs.declared.answers.Answer.{Answer}
-use Rattle.calls.specs.Answers.{code_answer, in_code}
+use Rattle.calls.specs.Calls.{code_answer, in_code}
 use Rattle.replay.specs.Following.{Asked}
 use Rattle.replay.specs.Replays.{Followed, InOrder, call_of, calls_of, phase_after}
 

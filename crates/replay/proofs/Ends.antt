@@ -17,7 +17,7 @@ use Rattle.course.proofs.Runs.{step_length}
 use Rattle.calls.specs.declared.answers.Answer.{Answer}
 use Rattle.calls.specs.declared.answers.Standing.{Standing}
 use Rattle.calls.specs.declared.answers.Standing.TheVariants.{Drawing, Counting}
-use Rattle.calls.specs.Answers.{code_answer, standing_state, standing_terms}
+use Rattle.calls.specs.Calls.{code_answer, standing_state, standing_terms}
 use Rattle.replay.specs.Following.{Asked, standing_phase}
 use Rattle.replay.specs.Replays.{CallRefused, StandsAt, Stops, call_of}
 

@@ -10,7 +10,7 @@ use Rattle.calls.specs.declared.answers.Answer.{Answer}
 use Rattle.calls.specs.declared.answers.Standing.{Standing}
 use Rattle.calls.specs.declared.answers.Standing.TheVariants.{Drawing, Counting}
 use Rattle.calls.specs.declared.answers.DrawCall.{DrawCall}
-use Rattle.calls.specs.Answers.{draw_call, in_code}
+use Rattle.calls.specs.Calls.{draw_call, in_code}
 use Rattle.replay.specs.declared.draws.Replayed.{Replayed}
 use Rattle.replay.specs.Replays.{StandsAt}
 

@@ -9,19 +9,18 @@ use Rattle.refusal.specs.declared.Refusal.TheVariants.{NoRoom}
 use Rattle.ballot.specs.declared.Card.{Card}
 use Rattle.format.specs.declared.command.Phase.{Phase}
 use Rattle.format.specs.declared.command.Phase.TheVariants as at
-use Rattle.format.specs.Format.{Cmd, batch, terms, contest, candidate, opens, entry, verdict, escalate, count, close, allowed, code, next}
+use Rattle.format.specs.Format.{Cmd, entry, verdict, escalate, count, close, allowed, code, next}
 use Rattle.format.specs.Counted.{begun}
 use Rattle.setup.specs.Described.{WrittenBefore}
 use Rattle.course.specs.Terms.{Terms}
 use Rattle.course.specs.Course.{Rules, State, Call, course, step}
 use Rattle.course.specs.Course.Answer.{refused}
 use Rattle.course.specs.Laws.{left_by}
-use Rattle.calls.specs.declared.states.Audit.{Audit}
+use Rattle.calls.specs.declared.drawing.Audit.{Audit}
 use Rattle.calls.specs.declared.answers.Answer.{Answer}
 use Rattle.calls.specs.declared.answers.Standing.{Standing}
 use Rattle.calls.specs.declared.answers.Standing.TheVariants.{Drawing, Counting}
-use Rattle.calls.specs.Answers.{code_answer}
-use Rattle.calls.specs.Shapes.{shown}
+use Rattle.calls.specs.Calls.{code_answer, shown}
 
 -- ---- commands and calls
 
@@ -37,16 +36,12 @@ card_of bs =
 
 -- What a command asks of an audit; a command of the setup file asks nothing.
 abbrev pub call_of : Cmd → Option Call
-call_of (batch name cards) = None
-call_of (terms risk_limit draw_limit policy weight) = None
-call_of (contest kind candidates seats p q) = None
-call_of (candidate name votes) = None
-call_of opens = None
 call_of (entry place found marks) = Some (Call.entry (shown place found (card_of marks)))
 call_of verdict = Some Call.verdict
 call_of escalate = Some Call.escalation
 call_of (count place found marks) = Some (Call.hand_count (shown place found (card_of marks)))
 call_of close = Some Call.closing
+call_of _ = None
 
 abbrev pub calls_of : List Cmd → List Call
 calls_of ms = flat_map (λ m. option_to_list (call_of m)) ms
@@ -55,16 +50,9 @@ calls_of ms = flat_map (λ m. option_to_list (call_of m)) ms
 
 -- The phase after a command: an escalation begins the counting, a close ends the file.
 abbrev pub phase_after : Phase → Cmd → Phase
-phase_after ph (batch name cards) = ph
-phase_after ph (terms risk_limit draw_limit policy weight) = ph
-phase_after ph (contest kind candidates seats p q) = ph
-phase_after ph (candidate name votes) = ph
-phase_after ph opens = ph
-phase_after ph (entry place found marks) = ph
-phase_after ph verdict = ph
 phase_after ph escalate = at.Counting
-phase_after ph (count place found marks) = ph
 phase_after ph close = at.Closed
+phase_after ph _ = ph
 
 -- Each command may stand where it stands; the first is at the phase p, and q is the phase after the last.
 abbrev pub InOrder : Phase → List Cmd → Phase → Type 0

@@ -1,9 +1,7 @@
 //! A whole draws file.
 ghost use Rattle.std.specs.Prelude.{◌≡◌, ◌≤◌, map, length, take, drop};
 ghost use Rattle.betting.specs.Accounts.{account};
-ghost use Rattle.calls.specs.Answers.{standing_state, standing_terms};
-ghost use Rattle.calls.specs.Calls.{audit_state};
-ghost use Rattle.calls.specs.Shapes.{terms_of};
+ghost use Rattle.calls.specs.Calls.{audit_state, standing_state, standing_terms, terms_of};
 ghost use Rattle.course.specs.Course.{rules_of};
 ghost use Rattle.course.specs.Promise.{Promised};
 ghost use Rattle.format.specs.Counted.{begun};

@@ -1,9 +1,8 @@
 //! One command of a draws file.
 ghost use Rattle.std.specs.Prelude.{◌≡◌, ◌≤◌, true, map, length, drop, Some};
 ghost use Rattle.betting.specs.Accounts.{account};
-ghost use Rattle.calls.specs.Answers.{count_call, standing_state, standing_terms};
-ghost use Rattle.calls.specs.Calls.{KeptOnRefusal};
-ghost use Rattle.calls.specs.Shapes.{terms_of};
+ghost use Rattle.calls.specs.Answers.{KeptOnRefusal};
+ghost use Rattle.calls.specs.Calls.{count_call, standing_state, standing_terms, terms_of};
 ghost use Rattle.course.specs.Course.{rules_of};
 ghost use Rattle.format.specs.declared.command.Phase.TheVariants.{Counting, Drawing};
 ghost use Rattle.format.specs.Format.{allowed, code, meant};

@@ -1,6 +1,6 @@
 //! What a draws file shows of a card.
 ghost use Rattle.std.specs.Prelude.{◌≡◌, ◌+◌, ◌≤◌};
-ghost use Rattle.calls.specs.Shapes.{shown, shown_of};
+ghost use Rattle.calls.specs.Calls.{shown, shown_of};
 ghost use Rattle.replay.specs.Replays.{card_of, four};
 
 use ballot::Card;

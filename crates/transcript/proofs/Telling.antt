@@ -11,10 +11,9 @@ use Rattle.course.specs.Course.{State}
 use Rattle.calls.specs.declared.answers.Answer.{Answer}
 use Rattle.course.specs.Openings.{own_rules}
 use Rattle.calls.specs.declared.answers.Standing.{Standing}
-use Rattle.calls.specs.declared.states.Audit.{Audit}
-use Rattle.calls.specs.Calls.{audit_state}
+use Rattle.calls.specs.declared.drawing.Audit.{Audit}
+use Rattle.calls.specs.Calls.{audit_state, terms_of}
 use Rattle.calls.specs.Openings.{Begun, OwnAssertions}
-use Rattle.calls.specs.Shapes.{terms_of}
 use Rattle.replay.specs.Replays.{Replays}
 use Rattle.transcript.specs.Transcripts.{Told, transcript}
 

@@ -15,10 +15,9 @@ use Rattle.course.specs.Openings.{own_rules}
 use Rattle.calls.specs.declared.answers.Answer.{Answer}
 use Rattle.calls.specs.declared.answers.Answer.TheVariants.{Taken, Finding, Upheld}
 use Rattle.calls.specs.declared.answers.Standing.{Standing}
-use Rattle.calls.specs.declared.states.Audit.{Audit}
-use Rattle.calls.specs.Calls.{audit_state}
+use Rattle.calls.specs.declared.drawing.Audit.{Audit}
+use Rattle.calls.specs.Calls.{audit_state, terms_of}
 use Rattle.calls.specs.Openings.{Begun, OwnAssertions}
-use Rattle.calls.specs.Shapes.{terms_of}
 use Rattle.replay.specs.Replays.{Replays}
 use Rattle.report.specs.Lines.{closing_lines, line, verdict_lines}
 use Rattle.intake.specs.declared.memory.Memory.{Memory}

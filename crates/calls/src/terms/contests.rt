@@ -5,7 +5,7 @@ ghost use Rattle.std.specs.List.{AllZip};
 ghost use Rattle.betting.specs.Accounts.{account};
 ghost use Rattle.course.specs.Course.{all_above, parts, rules_of, worst_risk};
 ghost use Rattle.verdict.specs.Contests.{padded};
-ghost use Rattle.calls.specs.Shapes.{terms_of};
+ghost use Rattle.calls.specs.Calls.{terms_of};
 
 use super::{Size, Terms};
 use assorter::Assorter;

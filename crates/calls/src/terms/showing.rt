@@ -1,8 +1,8 @@
 //! What an entry or a count may show.
 ghost use Rattle.std.specs.Prelude.{◌≡◌, ◌^◌, ◌≤◌, map, length, nat_lt};
 ghost use Rattle.course.specs.Terms.{blank, marks_fit, shown_refusal};
-ghost use Rattle.calls.specs.Calls.{refusal_in};
-ghost use Rattle.calls.specs.Shapes.{shown_of, terms_of};
+ghost use Rattle.calls.specs.Answers.{refusal_in};
+ghost use Rattle.calls.specs.Calls.{shown_of, terms_of};
 
 use super::{Size, Terms};
 use crate::answers::Shown;

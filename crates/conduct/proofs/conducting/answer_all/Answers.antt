@@ -3,8 +3,7 @@ use lib.ListN.{length-map}
 use Rattle.std.proofs.lemmas.List.{drop-set-lt, get_or-map}
 use Rattle.betting.specs.Accounts.{account}
 use Rattle.course.specs.Course.{rules_of, step}
-use Rattle.calls.specs.Answers.{in_code}
-use Rattle.calls.specs.Shapes.{terms_of}
+use Rattle.calls.specs.Calls.{in_code, terms_of}
 use Rattle.conduct.proofs.Conducts.{as_step, so_far_more}
 use Rattle.conduct.proofs.conducting.answer_all.Goals as goal
 

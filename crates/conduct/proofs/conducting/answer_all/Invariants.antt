@@ -1,7 +1,7 @@
 use Rattle.std.proofs.Common.{◌≡◌, map, length, drop}
 use Rattle.betting.specs.Accounts.{account}
 use Rattle.course.specs.Course.{rules_of}
-use Rattle.calls.specs.Shapes.{terms_of}
+use Rattle.calls.specs.Calls.{terms_of}
 use Rattle.conduct.proofs.Conducts.{SoFar}
 use Rattle.conduct.proofs.conducting.answer_all.Given as goal
 

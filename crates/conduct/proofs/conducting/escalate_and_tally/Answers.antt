@@ -5,9 +5,7 @@ use Rattle.betting.specs.Accounts.{account}
 use Rattle.course.specs.Course.{rules_of}
 use Rattle.course.specs.Laws.{left_by}
 use Rattle.calls.specs.declared.answers.Answer.TheVariants.{Taken}
-use Rattle.calls.specs.Answers.{count_call}
-use Rattle.calls.specs.Calls.{audit_state}
-use Rattle.calls.specs.Shapes.{terms_of}
+use Rattle.calls.specs.Calls.{audit_state, count_call, terms_of}
 use Rattle.calls.proofs.Escalations.{same_state}
 use Rattle.conduct.specs.Conducts.{answers_by}
 use Rattle.conduct.proofs.Tails.{drop_tail, take_tail}

@@ -3,10 +3,8 @@ use Rattle.std.proofs.lemmas.Grind.{common_steps}
 use Rattle.betting.specs.Accounts.{account}
 use Rattle.course.specs.Course.{rules_of}
 use Rattle.course.specs.Laws.{left_by}
-use Rattle.calls.specs.Answers.{draw_call}
-use Rattle.calls.specs.Calls.{audit_state}
+use Rattle.calls.specs.Calls.{audit_state, draw_call, terms_of}
 use Rattle.conduct.specs.Conducts.{all_calls, answers_by, later_calls}
-use Rattle.calls.specs.Shapes.{terms_of}
 use Rattle.conduct.proofs.Escalations.{answers_both, left_both}
 use Rattle.conduct.proofs.Tails.{drop_tail, take_tail}
 use Rattle.conduct.proofs.conducting.play_all.Goals as goal

@@ -12,9 +12,8 @@ use Rattle.format.proofs.Writing.{taken_as_written}
 use Rattle.course.specs.Course.{rules_of}
 use Rattle.calls.specs.declared.answers.Answer.{Answer}
 use Rattle.calls.specs.declared.terms.Terms.{Terms}
-use Rattle.calls.specs.Answers.{standing_state, standing_terms}
-use Rattle.calls.specs.Calls.{KeptOnRefusal, audit_state}
-use Rattle.calls.specs.Shapes.{terms_of}
+use Rattle.calls.specs.Answers.{KeptOnRefusal}
+use Rattle.calls.specs.Calls.{audit_state, standing_state, standing_terms, terms_of}
 use Rattle.replay.specs.Following.{Asked, StandsAfter, standing_phase}
 use Rattle.replay.specs.Replays.{Followed, Replays, StandsAt, call_of, phase_after}
 use Rattle.replay.proofs.Commands.{followed_more}

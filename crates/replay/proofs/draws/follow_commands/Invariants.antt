@@ -1,7 +1,6 @@
 use Rattle.std.proofs.Common.{◌≡◌, ◌+◌, ◌≤◌, map, length, take, drop}
 use Rattle.betting.specs.Accounts.{account}
-use Rattle.calls.specs.Answers.{standing_state, standing_terms}
-use Rattle.calls.specs.Shapes.{terms_of}
+use Rattle.calls.specs.Calls.{standing_state, standing_terms, terms_of}
 use Rattle.course.specs.Course.{rules_of}
 use Rattle.format.specs.Counted.{begun}
 use Rattle.replay.specs.Replays.{Followed, StandsAt}

@@ -3,8 +3,7 @@ use Rattle.std.proofs.lemmas.Grind.{common_steps}
 use Rattle.std.proofs.lemmas.Bool.Decides.{nat_tests}
 use Rattle.betting.specs.Accounts.{account}
 use Rattle.betting.specs.Policies.{chosen_state}
-use Rattle.calls.specs.Answers.{standing_state}
-use Rattle.calls.specs.Shapes.{terms_of}
+use Rattle.calls.specs.Calls.{standing_state, terms_of}
 use Rattle.replay.specs.Replays.{HasRoom}
 use Rattle.transcript.specs.Transcripts.{Told, transcript}
 use Rattle.transcript.proofs.Telling.{if_made, told}

@@ -13,6 +13,7 @@ invariant_of-result c =
     let f = relied_on a.setup.now xs a.candidates.now a.holds in
     record {
       ranges = (f.risk_limit_low, f.risk_limit_high, f.draw_limit_high, omega (arith, f.eight_contests, ap length c.contest_sizes.ensures, length-map xs size_of), f.cards_fit);
+      a_card = f.a_card;
       total = sym f.assertions ∙ rw c.contest_sizes.ensures (simp (map-map, fold-map));
     }
 

@@ -1,14 +1,12 @@
-use Rattle.std.proofs.Common.{◌≡◌, ◌+◌, ◌≤◌, map, length, None, Ok, ap, arith}
+use Rattle.std.proofs.Common.{◌≡◌, ◌+◌, ◌≤◌, map, length, None, Ok, ap, arith, rules}
 use Rattle.std.proofs.lemmas.Grind.{common_steps}
 use Rattle.betting.specs.Accounts.{account}
 use Rattle.course.specs.Course.{after_count, answered, rules_of, unless_refused}
 use Rattle.course.specs.Course.Call.{hand_count}
 use Rattle.calls.specs.declared.answers.Answer.TheVariants.{Taken}
-use Rattle.calls.specs.Answers.{in_code}
-use Rattle.calls.specs.Calls.{called, count_state, first_refusal}
-use Rattle.calls.specs.Shapes.{shown_of, terms_of}
+use Rattle.calls.specs.Calls.{called, count_state, first_refusal, in_code, shown_of, terms_of}
 use Rattle.calls.proofs.Moves.{count_moved}
-use Rattle.calls.proofs.states.HandCount.count.Goals as goal
+use Rattle.calls.proofs.counting.HandCount.count.Goals as goal
 
 pub returns-clause-course : goal.returns-clause-course
 returns-clause-course g c =
@@ -21,10 +19,10 @@ returns-clause-course g c =
     let σ = count_state h (map m rs) in
     let lent : h.terms.needed ≤ length rs = grind (arith, common_steps) in
     let moved =
-    count_moved R e _ c.found_card.ensures m h.terms.needed rs c.count_each.new.records lent c.count_each.auto.records
+    count_moved R e _ (search rules) m h.terms.needed rs c.count_each.new.records lent c.count_each.auto.records
     c.count_each.ensures in
     let granted : first_refusal t (length rs) σ (hand_count e) ≡ None = grind (arith, common_steps) in
     let answer : in_code (called R t (length rs) σ (hand_count e))
-    ≡ (record { accounts = map (after_count R e) σ.accounts; drawn = h.drawn; counted = h.counted + 1 }, Ok Taken) =
+    ≡ (record σ { accounts = map (after_count R e) σ.accounts; counted = σ.counted + 1 }, Ok Taken) =
     ap (λ o. in_code (unless_refused o σ (answered R t σ (hand_count e)))) granted in
     grind (arith, common_steps, moved, answer)

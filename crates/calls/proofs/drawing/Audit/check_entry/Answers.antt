@@ -3,8 +3,8 @@ use Rattle.std.specs.Option.{ok_or}
 use Rattle.std.proofs.lemmas.Grind.{common_steps}
 use Rattle.std.proofs.lemmas.List.{take-map}
 use Rattle.refusal.specs.declared.Refusal.TheVariants.{NoDrawsLeft}
-use Rattle.calls.specs.Calls.{refusal_in}
-use Rattle.calls.proofs.states.Audit.check_entry.Goals as goal
+use Rattle.calls.specs.Answers.{refusal_in}
+use Rattle.calls.proofs.drawing.Audit.check_entry.Goals as goal
 
 none_left : {X : Type 0} (b : Bool) (o : Option X) (x : X) → o ≡ (if b then None else Some x) → refusal_in (ok_or o NoDrawsLeft) ≡ cond b (Some NoDrawsLeft) None
 none_left true o x e = ap (λ p. refusal_in (ok_or p NoDrawsLeft)) e

@@ -8,11 +8,9 @@ use Rattle.course.specs.Course.{all_above, answered, parts, rules_of, unless_ref
 use Rattle.course.specs.Course.Call.{closing}
 use Rattle.verdict.specs.Contests.{closing_on}
 use Rattle.calls.specs.declared.answers.Answer.TheVariants.{Upheld}
-use Rattle.calls.specs.Answers.{in_code}
-use Rattle.calls.specs.Calls.{called, count_state, first_refusal}
-use Rattle.calls.specs.Shapes.{terms_of}
+use Rattle.calls.specs.Calls.{called, count_state, first_refusal, in_code, terms_of}
 use Rattle.calls.proofs.Parts.{length_told}
-use Rattle.calls.proofs.states.HandCount.close.Goals as goal
+use Rattle.calls.proofs.counting.HandCount.close.Goals as goal
 
 pub returns : goal.returns
 returns g c =

@@ -8,12 +8,10 @@ use Rattle.course.specs.Course.{answered, found_by, risks, rules_of, unless_refu
 use Rattle.course.specs.Course.Call.{verdict}
 use Rattle.verdict.specs.Contests.{verdict_on}
 use Rattle.calls.specs.declared.answers.Answer.TheVariants.{Finding}
-use Rattle.calls.specs.Answers.{in_code}
-use Rattle.calls.specs.Calls.{audit_state, called, first_refusal}
-use Rattle.calls.specs.Shapes.{terms_of}
+use Rattle.calls.specs.Calls.{audit_state, called, first_refusal, in_code, terms_of}
 use Rattle.calls.proofs.Parts.{length_told}
 use Rattle.calls.proofs.Verdicts.{confirms, counts_entries, draws_within}
-use Rattle.calls.proofs.states.Audit.verdict.Goals as goal
+use Rattle.calls.proofs.drawing.Audit.verdict.Goals as goal
 
 pub returns-clause-course : goal.returns-clause-course
 returns-clause-course g c =
