@@ -4,13 +4,16 @@ use lib.ListN.{length-map}
 use Rattle.std.specs.List.{AllByRecursion}
 use Rattle.std.proofs.ByRecursion.{All-map}
 use Rattle.std.proofs.lemmas.List.{drop_at, drop-map, take_at, take-map}
-use Rattle.std.proofs.lemmas.Bool.{and_parts, cases_lt}
+use Rattle.std.proofs.lemmas.Bool.{cases_lt}
 use Rattle.ballot.specs.declared.Candidate.{Candidate}
 use Rattle.ballot.specs.declared.Card.{Card}
 use Rattle.ballot.specs.declared.Contest.{Contest}
 use Rattle.ballot.specs.Contests.{assertion_count}
+use Rattle.ballot.specs.Slates.{Slate, slates}
+use Rattle.ballot.specs.Votes.{TrulyWon}
 use Rattle.assertion.specs.declared.assertions.Assertion.{Assertion}
-use Rattle.assertion.specs.Assertions.{Claim, pair, share, Plan, claim_of, contest_stands, each_stands, planned, planned_of}
+use Rattle.assertion.specs.Assertions.{Claim, pair, share, EachStands, Plan, claim_of, planned, planned_of}
+use Rattle.assertion.proofs.Parts.{WalkedOn, walked_on}
 use Rattle.assertion.proofs.Totals.{count_of}
 use Rattle.assorter.specs.Law.{JustWhen}
 use Rattle.assorter.specs.Values.{Holds}
@@ -23,12 +26,12 @@ use Rattle.course.specs.Course.{State, parts}
 use Rattle.course.specs.Scripts.{Ballot}
 use Rattle.course.specs.Bounds.{Any, Opened, accounts_of, RiskLimited}
 use Rattle.course.specs.Laws.{ClaimsHold, CountsDecide}
-use Rattle.course.specs.Openings.{own_rules, ContradictedWhenLost, HandCountDecides, LimitsWrongBoards, Won, WonFrom}
+use Rattle.course.specs.Openings.{own_rules, ContradictedWhenLost, HandCountDecides, LimitsWrongBoards, Won}
 use Rattle.course.proofs.Deciding.{all_or_any}
 
 -- The accounts are those of the contests' own assertions, in order.
 pub record OwnAccounts (xs : List Contest) (cs : List Candidate) (t : Terms) (σ : State Assertion Chosen) : Type 0 where
-  pub stand : each_stands xs cs ≡ true
+  pub stand : EachStands xs cs
   pub parts_are : t.assertions ≡ map assertion_count xs
   pub claims_are : map (λ x. claim_of x.assorter) σ.accounts ≡ map (λ plan. plan.claim) (planned 0 xs cs)
 
@@ -67,38 +70,47 @@ says x = claim_of x.assorter
 abbrev plans : Plan → Claim
 plans plan = plan.claim
 
+-- no contest has a number below the first
+none_below : (P : Slate → Type 0) (n k : ℕ) (xs : List Contest) (cs : List Candidate) → n < k → AllByRecursion (λ s. s.number ≡ n → P s) (slates k xs cs)
+none_below P n k [] cs lt = tt
+none_below P n k (x ∷ xs) cs lt =
+    (λ e. absurd (omega (arith, e, lt)), none_below P n (k + 1) xs (drop x.candidates cs) (omega (arith, lt)))
+
 -- all claims of a contest's part hold just when it was truly won
 part_won :
-    (j k : ℕ) (xs : List Contest) (cs : List Candidate) (ys : List (Account Assertion Chosen)) → each_stands xs cs ≡ true →
+    (j k n : ℕ) → j + k ≡ n → (xs : List Contest) (cs : List Candidate) (ys : List (Account Assertion Chosen)) → WalkedOn xs cs →
     map says ys ≡ map plans (planned j xs cs) → (cards : List Card) →
-    JustWhen (AllByRecursion (λ x. Holds (says x) cards) (get_or (parts (map assertion_count xs) ys) k [])) (WonFrom j k xs cs cards)
-unfolding planned each_stands
-part_won j k [] cs ys h same cards = (λ _. tt, λ _. tt)
-part_won j zero (x ∷ xs) cs ys h same cards =
+    JustWhen (AllByRecursion (λ x. Holds (says x) cards) (get_or (parts (map assertion_count xs) ys) k []))
+    (AllByRecursion (λ s. s.number ≡ n → TrulyWon s.contest s.number s.own cards) (slates j xs cs))
+unfolding planned
+part_won j k n e [] cs ys h same cards = (λ _. tt, λ _. tt)
+part_won j zero n e (x ∷ xs) cs ys h same cards =
     let own = take x.candidates cs in
     let rest = drop x.candidates cs in
-    let n = assertion_count x in
-    let b = and_parts (contest_stands x own) (each_stands xs rest) h in
-    let here = front_same says plans ys (planned_of j x own) (planned (j + 1) xs rest) n (count_of j x own b.0) same in
-    let tell = claims_tell_contest j x own b.0 cards in
+    let count = assertion_count x in
+    let here = front_same says plans ys (planned_of j x own) (planned (j + 1) xs rest) count (count_of j x own h.1) same in
+    let tell = claims_tell_contest j x own h.1 cards in
     let P : Claim → Type 0 = λ c. Holds c cards in (
-      λ all. tell.0 (all_same P says plans (take n ys) (planned_of j x own) here all),
-      λ won. all_same P plans says (planned_of j x own) (take n ys) (sym here) (tell.1 won),
+      λ all. (
+        λ _. tell.0 (all_same P says plans (take count ys) (planned_of j x own) here all),
+        none_below (λ s. TrulyWon s.contest s.number s.own cards) n (j + 1) xs rest (omega (arith, e)),
+      ),
+      λ won. all_same P plans says (planned_of j x own) (take count ys) (sym here) (tell.1 (won.0 (omega (arith, e)))),
     )
-part_won j (suc k) (x ∷ xs) cs ys h same cards =
+part_won j (suc k) n e (x ∷ xs) cs ys h same cards =
     let own = take x.candidates cs in
     let rest = drop x.candidates cs in
-    let n = assertion_count x in
-    let b = and_parts (contest_stands x own) (each_stands xs rest) h in
-    let later = back_same says plans ys (planned_of j x own) (planned (j + 1) xs rest) n (count_of j x own b.0) same in
-    part_won (j + 1) k xs rest (drop n ys) b.1 later cards
+    let count = assertion_count x in
+    let later = back_same says plans ys (planned_of j x own) (planned (j + 1) xs rest) count (count_of j x own h.1) same in
+    let tell = part_won (j + 1) k n (omega (arith, e)) xs rest (drop count ys) h.2 later cards in
+    (λ all. (λ i. absurd (omega (arith, e, i)), tell.0 all), λ won. tell.1 won.1)
 
 module _ (xs : List Contest) (cs : List Candidate) (t : Terms) (σ : State Assertion Chosen) (own : OwnAccounts xs cs t σ) where
   claims_tell_won : (b : Ballot) (k : ℕ) → JustWhen (ClaimsHold own_rules t σ b k) (Won k xs cs b.cards)
   claims_tell_won b k =
       let P : Account Assertion Chosen → Type 0 = λ x. Holds (says x) b.cards in
       subst (λ ns. JustWhen (AllByRecursion P (get_or (parts ns σ.accounts) k [])) (Won k xs cs b.cards)) (sym own.parts_are)
-      (part_won 0 k xs cs σ.accounts own.stand own.claims_are b.cards)
+      (part_won 0 k k (omega arith) xs cs σ.accounts (walked_on xs cs own.stand) own.claims_are b.cards)
 
   pub contradicted_when_lost : ContradictedWhenLost xs cs t σ
   contradicted_when_lost b k =

@@ -1,9 +1,10 @@
 -- Audits that are opened by the contests' own assertions: their bound and their hand count in terms of the outcomes.
-use Rattle.std.specs.Prelude.{◌≡◌, ℕ, zero, suc, ◌+◌, ◌<◌, Bool, true, false, List, [], ◌∷◌, length, take, drop, slice_index_or}
+use Rattle.std.specs.Prelude.{◌≡◌, ℕ, ◌<◌, Bool, true, false, List, length, slice_index_or}
 use Rattle.std.specs.List.{AllByRecursion}
 use Rattle.ballot.specs.declared.Candidate.{Candidate}
 use Rattle.ballot.specs.declared.Card.{Card}
 use Rattle.ballot.specs.declared.Contest.{Contest}
+use Rattle.ballot.specs.Slates.{slates}
 use Rattle.ballot.specs.Votes.{TrulyWon}
 use Rattle.assertion.specs.declared.assertions.Assertion.{Assertion}
 use Rattle.assertion.specs.Assertions.{claim_of}
@@ -28,16 +29,9 @@ own_rules = record {
   told = chosen_told;
 }
 
--- The contest at place k of the list was truly won on the cards by its reported winners, each contest with its own
--- candidates. The list's first contest has the number j on the cards; past the end there is nothing to win.
-abbrev pub WonFrom : ℕ → ℕ → List Contest → List Candidate → List Card → Type 0
-WonFrom j k [] cs cards = Unit {0}
-WonFrom j zero (x ∷ xs) cs cards = TrulyWon x j (take x.candidates cs) cards
-WonFrom j (suc k) (x ∷ xs) cs cards = WonFrom (j + 1) k xs (drop x.candidates cs) cards
-
--- Contest k, counted from 0, was truly won on the cards by its reported winners.
+-- Contest k, counted from 0, was truly won on the cards by its reported winners; past the last there is nothing to win.
 abbrev pub Won : ℕ → List Contest → List Candidate → List Card → Type 0
-Won k xs cs cards = WonFrom 0 k xs cs cards
+Won k xs cs cards = AllByRecursion (λ s. s.number ≡ k → TrulyWon s.contest s.number s.own cards) (slates 0 xs cs)
 
 module _ (xs : List Contest) (cs : List Candidate) (t : Terms) (σ : State Assertion Chosen) where
   -- The cards contradict a contest just when its reported winners did not truly win.
