@@ -2,7 +2,7 @@
 use Rattle.std.proofs.Common.{◌≡◌, ℕ, ◌+◌, ◌*◌, ◌<◌, ◌≤◌, Bool, true, false, not, List, [], ◌∷◌, map, length, take, drop, Decides, count_by, sym, subst, arith}
 use Rattle.std.specs.List.{AllByRecursion}
 use Rattle.std.proofs.ByRecursion.{All-append, All-map}
-use Rattle.std.proofs.lemmas.Bool.{and_parts, lt-leb, not_from_false, not-true}
+use Rattle.std.proofs.lemmas.Bool.{lt-leb, not_from_false, not-true}
 use Rattle.ballot.specs.declared.Kind.{Kind}
 use Rattle.ballot.specs.declared.Kind.TheVariants.{Plurality, Approval, Supermajority}
 use Rattle.ballot.specs.declared.Candidate.{Candidate}
@@ -12,7 +12,7 @@ use Rattle.ballot.specs.Contests.{SeatsFit}
 use Rattle.ballot.specs.Votes.{TrulyWon, gives_any, gives_vote, marks_of}
 use Rattle.ballot.specs.Winners.{Ahead, losers, winners, wins}
 use Rattle.assertion.specs.declared.assertions.Planned.{Planned}
-use Rattle.assertion.specs.Assertions.{EachStands, Plan, Stands, meant, pair_plan, pairs_of, pairs_under, planned, planned_by, planned_of, share_plan, shares_of}
+use Rattle.assertion.specs.Assertions.{Plan, meant, pair_plan, pairs_of, pairs_under, planned, planned_by, planned_of, share_plan, shares_of}
 use Rattle.assertion.proofs.Parts.{WalkedOn, walked_on}
 use Rattle.assorter.specs.Law.{JustWhen}
 use Rattle.assorter.specs.Outcomes.{AllHold, AllWon, ClaimsTellContest, ClaimsTellContests, TellsContest, TellsContests}
