@@ -1,11 +1,12 @@
 -- The first accounts after a card was shown, which moves them by its card alone, found or missing.
-use Rattle.std.proofs.Common.{◌≡◌, ℕ, ◌≤◌, Bool, true, false, cond, eqb, List, ◌++◌, map, length, take, drop, Some, None, Option, sym, refl, ap, ◌∙◌, arith}
+use Rattle.std.proofs.Common.{◌≡◌, ℕ, ◌≤◌, Bool, true, false, cond, eqb, List, ◌++◌, map, length, take, drop, Some, None, Option, sym, refl, ap, ◌∙◌, subst, arith}
 use lib.ListN.{length-map}
+use Rattle.std.specs.Bool.{IsTrue}
 use Rattle.std.proofs.lemmas.List.{length-take, map-append, take-map, take_at}
 use Rattle.ballot.specs.declared.Card.{Card}
 use Rattle.betting.specs.Accounts.{Account, played, tallied}
 use Rattle.course.specs.Terms.{Shown}
-use Rattle.course.specs.Course.{Rules, after_count, after_entry, shown_value}
+use Rattle.course.specs.Course.{Rules, after_count, after_entry, all_settled, shown_value}
 use Rattle.walks.specs.Walks.{as_found}
 use Rattle.calls.specs.Answers.{found_card}
 
@@ -28,11 +29,13 @@ module _ {A S : Type 0} (R : Rules A S) where
 
     module _ {Z : Type 0} (m : Z → Account A S) (n : ℕ) (rs ys : List Z) (enough : n ≤ length rs) (long : length ys ≡ length (take n rs)) where
       pub entry_moved :
-          (held limit : ℕ) → held ≡ limit → 10 ≤ limit →
-          (10 ≤ held → map m ys ≡ map (after_entry R held (as_found o)) (map m (take n rs))) →
+          (held limit first : ℕ) → held ≡ limit → 10 ≤ limit → IsTrue (all_settled limit (take first (map m (take n rs)))) →
+          (10 ≤ held → IsTrue (all_settled held (take first (map m (take n rs)))) →
+          map m ys ≡ map (after_entry R held (as_found o)) (map m (take n rs))) →
           take n (map m (ys ++ drop n rs)) ≡ map (after_entry R limit e) (take n (map m rs))
-      entry_moved held limit same low new =
-          front_of m n rs ys enough long (after_entry R held (as_found o)) (new (omega arith))
+      entry_moved held limit first same low settled new =
+          let front = subst (λ k. IsTrue (all_settled k (take first (map m (take n rs))))) (sym same) settled in
+          front_of m n rs ys enough long (after_entry R held (as_found o)) (new (omega arith) front)
           ∙ ap (λ k. map (after_entry R k (as_found o)) (take n (map m rs))) same
           ∙ (λ i. map (λ x. played R.bet R.told (R.half x.assorter) (alike x.assorter i) limit x) (take n (map m rs)))
 

@@ -22,8 +22,8 @@ returns-clause-course g c =
     let settled = rw take-map at c.in_ok-first.ensures.before in
     let moved =
     entry_moved R e _ (search rules) m a.terms.needed rs c.enter_from.new.records lent c.enter_from.auto.records
-    _ t.limit (omega arith) a.terms.ranges.0 (λ low. c.enter_from.ensures.rules low settled) in
-    let granted : first_refusal t (length rs) σ (entry e) ≡ None = grind (arith, common_steps) in
+    _ t.limit _ (omega arith) a.terms.ranges.0 settled c.enter_from.ensures.rules in
+    let granted : first_refusal t (length rs) σ (entry e) ≡ None = grind (arith, c.in_ok-first.ensures.refuses) in
     let answer : in_code (called R t (length rs) σ (entry e))
     ≡ (record σ { accounts = map (after_entry R t.limit e) σ.accounts; drawn = σ.drawn + 1 }, Ok Taken) =
     ap (λ o. in_code (unless_refused o σ (answered R t σ (entry e)))) granted in
