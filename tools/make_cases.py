@@ -7,8 +7,8 @@ for each, NAME, a tab, and `accepted`, `refused N file 1 at OFFSET` or `file too
 below is written by hand; a plain reader of the rules reckons it again, and both must agree.
 
 data gets draws files too, and audits.txt: a line for each pair of files, the setup's NAME, a tab, and
-that of the draws. What the audit of each prints is written by hand. stdout is all that the program
-must print.
+that of the draws. The pairs of examples/ that are named below are among them. What the audit of each
+prints is written by hand. stdout is all that the program must print.
 """
 
 import os
@@ -481,6 +481,15 @@ AUDITS = [
     ("example", "mark_on_a_missing_card", ["refused 13 file 2 at 0"]),
 ]
 
+# Both files of a folder of examples/, and what their audit prints.
+EXAMPLES = [
+    (
+        "by-hand",
+        ["contest 1 risk 625", "contest 2 risk 834", "draws 1", "continue"]
+        + ["contest 1 risk 625", "contest 2 risk 834", "draws 3", "full hand count"]
+        + ["contest 1 upheld", "contest 2 not upheld"],
+    ),
+]
 
 # What the program says of a folder, and of a path that leads through a file.
 PATHS = [".: cannot be read\n", "example.bin/setup.bin: cannot be read\n"]
@@ -489,6 +498,12 @@ PATHS = [".: cannot be read\n", "example.bin/setup.bin: cannot be read\n"]
 def write(path, file):
     with open(path, "wb") as out:
         out.write(file)
+
+
+def example(name, file):
+    top = os.path.dirname(os.path.dirname(os.path.abspath(__file__)))
+    with open(os.path.join(top, "examples", name, file + ".bin"), "rb") as found:
+        return found.read()
 
 
 def main(folder):
@@ -510,7 +525,15 @@ def main(folder):
         assert name not in names, name
         names.add(name)
         write(os.path.join(data, name + ".bin"), file)
-    for setup, draws, printed in AUDITS:
+    audited = list(AUDITS)
+    for name, printed in EXAMPLES:
+        here = [f"{name}-{file}" for file in ("setup", "draws")]
+        for file, file_name in zip(("setup", "draws"), here):
+            assert file_name not in names, file_name
+            names.add(file_name)
+            write(os.path.join(data, file_name + ".bin"), example(name, file))
+        audited.append((*here, printed))
+    for setup, draws, printed in audited:
         assert setup in names and draws in names, (setup, draws)
         pairs.append(f"{setup}\t{draws}\n")
         audits.append(f"{setup} with {draws}\n" + "".join(line + "\n" for line in printed))
@@ -519,7 +542,7 @@ def main(folder):
     write(os.path.join(data, "audits.txt"), "".join(pairs).encode())
     write(os.path.join(folder, "stdout"), "".join(lines + places + audits + PATHS).encode())
     accepted = sum(1 for case in CASES if case[2] == OK)
-    print(f"{len(CASES)} cases, {accepted} accepted, {len(CASES) - accepted} not; {len(AUDITS)} audits")
+    print(f"{len(CASES)} cases, {accepted} accepted, {len(CASES) - accepted} not; {len(audited)} audits")
 
 
 if __name__ == "__main__":
