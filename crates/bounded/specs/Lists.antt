@@ -1,5 +1,5 @@
 -- What a list over lent memory holds, and what its methods answer and leave.
-use Rattle.std.specs.Prelude.{ℕ, zero, suc, Bool, cond, [], ◌∷◌, ◌++◌, length, take, drop, Ok, Err, Result, nat_lt, slice_set}
+use Rattle.std.specs.Prelude.{ℕ, zero, suc, Bool, if◌then◌else◌, [], ◌∷◌, ◌++◌, length, take, drop, Ok, Err, Result, nat_lt, slice_set}
 use mathlib.Core.List as lists
 use Rattle.refusal.specs.declared.Refusal.{Refusal}
 use Rattle.refusal.specs.declared.Refusal.TheVariants.{NoRoom, PastTheEnd}
@@ -11,6 +11,7 @@ pub record Held (T : Type 0) : Type 0 where
   pub memory : lists.List T
 
 module _ {T : Type 0} where
+  -- What a list holds: the items in the first places of its memory.
   abbrev pub held : List T → Held T
   held l = record { items = take l.len l.slots.now; memory = l.slots.now }
 
@@ -27,24 +28,30 @@ module _ {T : Type 0} where
   -- One item more, after the others and in the first free place; a full list stays as it is.
   abbrev pub appended : Held T → T → Held T
   appended h x =
-      cond (has_room h) (record { items = h.items ++ x ∷ []; memory = slice_set h.memory (length h.items) x }) h
+      if has_room h then record { items = h.items ++ x ∷ []; memory = slice_set h.memory (length h.items) x } else h
 
+  -- What it answers: that there was a place, or that the list is full.
   abbrev pub append_answer : Held T → Result Unit Refusal
-  append_answer h = cond (has_room h) (Ok tt) (Err NoRoom)
+  append_answer h = if has_room h then Ok tt else Err NoRoom
 
+  -- The item at i, or that there is none.
   abbrev pub get_answer : Held T → ℕ → Result T Refusal
   get_answer h i = item h.items i
 
   -- The item at i becomes x, in its place; past the last item nothing changes.
   abbrev pub replaced : Held T → ℕ → T → Held T
   replaced h i x =
-      cond (nat_lt i (length h.items)) (record { items = slice_set h.items i x; memory = slice_set h.memory i x }) h
+      if nat_lt i (length h.items)
+      then record { items = slice_set h.items i x; memory = slice_set h.memory i x }
+      else h
 
+  -- What it answers: that there is such an item, or that there is none.
   abbrev pub replace_answer : Held T → ℕ → Result Unit Refusal
-  replace_answer h i = cond (nat_lt i (length h.items)) (Ok tt) (Err PastTheEnd)
+  replace_answer h i = if nat_lt i (length h.items) then Ok tt else Err PastTheEnd
 
+  -- No items any more; the memory stays as it was.
   abbrev pub emptied : Held T → Held T
-  emptied h = record { items = []; memory = h.memory }
+  emptied h = record h { items = [] }
 
   -- Memory whose first places took these items, one after the other, and whose other places are as they were.
   abbrev pub filled : lists.List T → lists.List T → Held T

@@ -5,6 +5,7 @@ use Rattle.ballot.specs.declared.Kind.TheVariants.{Plurality}
 use Rattle.setup.specs.Reading.{HeldLists}
 use Rattle.intake.specs.declared.memory.Memory.{Memory}
 
+-- Each place holds zeros, and an assertion that no contest makes: that candidate 0 of contest 0 has more than half.
 pub record Blank (m : Memory) : Type 0 where
   pub batches : m.batches ≡ replicate 200 (record { name = replicate 8 0; cards = 0 })
   pub contests : m.contests ≡ replicate 8 (record { kind = Plurality; candidates = 0; seats = 0 })

@@ -1,5 +1,5 @@
 -- The accounts in which an audit begins, and what a start leaves.
-use Rattle.std.specs.Prelude.{◌≡◌, ℕ, Bool, cond, ◌||◌, List, [], ◌∷◌, ◌++◌, length, drop, Some, None, Ok, Err, Option, Result, nat_lt}
+use Rattle.std.specs.Prelude.{◌≡◌, ℕ, Bool, if◌then◌else◌, ◌||◌, List, [], ◌∷◌, ◌++◌, length, drop, Some, None, Ok, Err, Option, Result, nat_lt}
 use Rattle.refusal.specs.declared.Refusal.{Refusal}
 use Rattle.refusal.specs.declared.Refusal.TheVariants.{NoRoom}
 use Rattle.assertion.specs.declared.assertions.Assertion.{Assertion}
@@ -22,6 +22,7 @@ first_state Fixed x = always x.first_bet
 first_state (Shrinking weight) x =
     shrinking_or x.first_bet (begun x.first_bet weight (half_of x.assertion) (top_of x.assertion))
 
+-- The account of a planned assertion, of which no card has been seen.
 abbrev pub started_plan : PolicyChoice → Planned → Account Assertion Chosen
 started_plan choice x = opened x.assertion (first_state choice x)
 
@@ -39,12 +40,13 @@ fewer n xs = nat_lt (length xs) n
 abbrev pub any_fewer : {A P R : Type 0} → ℕ → List A → List P → List R → Bool
 any_fewer n xs ps rs = fewer n rs || fewer n xs || fewer n ps
 
+-- A start is refused where there are too few places.
 abbrev pub start_answer : Bool → Result Unit Refusal
-start_answer too_few = cond too_few (Err NoRoom) (Ok tt)
+start_answer too_few = if too_few then Err NoRoom else Ok tt
 
 -- The new accounts in place of the first n; a refusal leaves all accounts as they are.
 abbrev pub after_start : {X : Type 0} → Bool → ℕ → List X → List X → List X
-after_start too_few n new old = cond too_few old (new ++ drop n old)
+after_start too_few n new old = if too_few then old else new ++ drop n old
 
 -- A refusal changes nothing.
 abbrev pub RefusedUnchanged : {X : Type 0} → Result Unit Refusal → List X → List X → Type 0
