@@ -4,13 +4,14 @@ use lib.ListN.{length-map}
 use Rattle.std.specs.List.{AllByRecursion}
 use Rattle.std.proofs.ByRecursion.{All-map}
 use Rattle.std.proofs.lemmas.List.{drop_at, drop-map, take_at, take-map}
-use Rattle.std.proofs.lemmas.Bool.{and_parts, cases_lt}
+use Rattle.std.proofs.lemmas.Bool.{cases_lt}
 use Rattle.ballot.specs.declared.Candidate.{Candidate}
 use Rattle.ballot.specs.declared.Card.{Card}
 use Rattle.ballot.specs.declared.Contest.{Contest}
 use Rattle.ballot.specs.Contests.{assertion_count}
 use Rattle.assertion.specs.declared.assertions.Assertion.{Assertion}
-use Rattle.assertion.specs.Assertions.{Claim, pair, share, Plan, claim_of, contest_stands, each_stands, planned, planned_of}
+use Rattle.assertion.specs.Assertions.{Claim, pair, share, EachStands, Plan, claim_of, planned, planned_of}
+use Rattle.assertion.proofs.Parts.{WalkedOn, walked_on}
 use Rattle.assertion.proofs.Totals.{count_of}
 use Rattle.assorter.specs.Law.{JustWhen}
 use Rattle.assorter.specs.Values.{Holds}
@@ -63,18 +64,17 @@ plans plan = plan.claim
 
 -- all claims of a contest's part hold just when it was truly won
 part_won :
-    (j k : ℕ) (xs : List Contest) (cs : List Candidate) (ys : List (Account Assertion Chosen)) → each_stands xs cs ≡ true →
+    (j k : ℕ) (xs : List Contest) (cs : List Candidate) (ys : List (Account Assertion Chosen)) → WalkedOn xs cs →
     map says ys ≡ map plans (planned j xs cs) → (cards : List Card) →
     JustWhen (AllByRecursion (λ x. Holds (says x) cards) (get_or (parts (map assertion_count xs) ys) k [])) (WonFrom j k xs cs cards)
-unfolding planned each_stands
+unfolding planned
 part_won j k [] cs ys h same cards = (λ _. tt, λ _. tt)
 part_won j zero (x ∷ xs) cs ys h same cards =
     let own = take x.candidates cs in
     let rest = drop x.candidates cs in
     let n = assertion_count x in
-    let b = and_parts (contest_stands x own) (each_stands xs rest) h in
-    let here = front_same says plans ys (planned_of j x own) (planned (j + 1) xs rest) n (count_of j x own b.0) same in
-    let tell = claims_tell_contest j x own b.0 cards in
+    let here = front_same says plans ys (planned_of j x own) (planned (j + 1) xs rest) n (count_of j x own h.1) same in
+    let tell = claims_tell_contest j x own h.1 cards in
     let P : Claim → Type 0 = λ c. Holds c cards in (
       λ all. tell.0 (all_same P says plans (take n ys) (planned_of j x own) here all),
       λ won. all_same P plans says (planned_of j x own) (take n ys) (sym here) (tell.1 won),
@@ -83,16 +83,15 @@ part_won j (suc k) (x ∷ xs) cs ys h same cards =
     let own = take x.candidates cs in
     let rest = drop x.candidates cs in
     let n = assertion_count x in
-    let b = and_parts (contest_stands x own) (each_stands xs rest) h in
-    let later = back_same says plans ys (planned_of j x own) (planned (j + 1) xs rest) n (count_of j x own b.0) same in
-    part_won (j + 1) k xs rest (drop n ys) b.1 later cards
+    let later = back_same says plans ys (planned_of j x own) (planned (j + 1) xs rest) n (count_of j x own h.1) same in
+    part_won (j + 1) k xs rest (drop n ys) h.2 later cards
 
 module _ (xs : List Contest) (cs : List Candidate) (t : Terms) (σ : State Assertion Chosen) (own : OwnAccounts xs cs t σ) where
   claims_tell_won : (b : Ballot) (k : ℕ) → JustWhen (ClaimsHold own_rules t σ b k) (Won k xs cs b.cards)
   claims_tell_won b k =
       let P : Account Assertion Chosen → Type 0 = λ x. Holds (says x) b.cards in
       subst (λ ns. JustWhen (AllByRecursion P (get_or (parts ns σ.accounts) k [])) (Won k xs cs b.cards)) (sym own.parts_are)
-      (part_won 0 k xs cs σ.accounts own.stand own.claims_are b.cards)
+      (part_won 0 k xs cs σ.accounts (walked_on xs cs own.stand) own.claims_are b.cards)
 
   pub contradicted_when_lost : ContradictedWhenLost xs cs t σ
   contradicted_when_lost b k =

@@ -7,7 +7,7 @@ use Rattle.ballot.specs.declared.Contest.{Contest}
 use Rattle.ballot.specs.Contests.{assertion_count}
 use Rattle.ballot.specs.Votes.{TrulyWon}
 use Rattle.assertion.specs.declared.assertions.Assertion.{Assertion}
-use Rattle.assertion.specs.Assertions.{claim_of, each_stands, planned}
+use Rattle.assertion.specs.Assertions.{EachStands, claim_of, planned}
 use Rattle.assertion.specs.Values.{half_of}
 use Rattle.assorter.specs.Law.{JustWhen}
 use Rattle.assorter.specs.Values.{Holds, worth}
@@ -43,7 +43,7 @@ Won k xs cs cards = WonFrom 0 k xs cs cards
 
 -- The accounts are those of the contests' own assertions, in order.
 pub record OwnAccounts (xs : List Contest) (cs : List Candidate) (t : Terms) (σ : State Assertion Chosen) : Type 0 where
-  pub stand : each_stands xs cs ≡ true
+  pub stand : EachStands xs cs
   pub parts_are : t.assertions ≡ map assertion_count xs
   pub claims_are : map (λ x. claim_of x.assorter) σ.accounts ≡ map (λ plan. plan.claim) (planned 0 xs cs)
 
