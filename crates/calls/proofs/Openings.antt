@@ -14,7 +14,7 @@ use Rattle.setup.specs.declared.setup.PolicyChoice.TheVariants.{Fixed, Shrinking
 use Rattle.setup.specs.Described.{PolicyFits}
 use Rattle.setup.specs.declared.setup.Setup.{Setup}
 use Rattle.acceptance.specs.Held.{HoldsSetup}
-use Rattle.acceptance.proofs.Opening.{OpeningFacts, opening_facts}
+use Rattle.acceptance.proofs.Opening.{each_of, OpeningFacts, opening_facts}
 use Rattle.assertion.specs.declared.assertions.Assertion.{Assertion}
 use Rattle.assertion.specs.Assertions.{Claim, Plan, claim_of, planned}
 use Rattle.assorter.proofs.Lists.{all_from_map}
@@ -139,7 +139,7 @@ module _ (s : Setup) (xs : List Contest) (cs : List Candidate) (h : HoldsSetup s
 
   own_accounts : OwnAccounts xs cs t σ
   own_accounts = record {
-    stand = (opening_facts s xs cs h).each_stand;
+    stand = each_of s xs cs (opening_facts s xs cs h);
     parts_are = ap (λ z. z.assertions) o.terms;
     claims_are =
         ap (λ n. map (λ x. claim_of x.assorter) (take n accounts)) o.needed

@@ -20,13 +20,14 @@ use Rattle.setup.specs.declared.setup.PolicyChoice.{PolicyChoice}
 use Rattle.setup.specs.declared.setup.PolicyChoice.TheVariants.{Fixed, Shrinking}
 use Rattle.setup.specs.declared.setup.Setup.{Setup}
 use Rattle.setup.specs.Described.{PolicyFits}
-use Rattle.acceptance.proofs.Opening.{OpeningFacts}
+use Rattle.acceptance.proofs.Opening.{OpeningFacts, each_of}
 use Rattle.assertion.specs.declared.assertions.Assertion.{Assertion}
 use Rattle.assertion.specs.declared.assertions.Assertion.TheVariants.{Pair, Share}
 use Rattle.assertion.specs.declared.assertions.Planned.{Planned}
 use Rattle.assertion.specs.Assertions.{Plan, claim_of, list_answer, meant, pair_plan, pairs_of, pairs_under, planned, planned_by, planned_of, share_plan}
 use Rattle.assertion.specs.Bets.{bet_range, pair_bet, share_bet}
 use Rattle.assertion.specs.Values.{half_of, top_of}
+use Rattle.assertion.proofs.Parts.{walked_on}
 use Rattle.assertion.proofs.Totals.{count_all}
 use Rattle.assorter.proofs.Lists.{all_from_map, all_joined}
 use Rattle.betting.specs.Accounts.{Account, opened}
@@ -104,7 +105,7 @@ pub listed :
     (s : Setup) (xs : List Contest) (cs : List Candidate) → OpeningFacts s xs cs → (before : Held Planned) →
     256 ≤ length before.memory → list_answer xs cs before ≡ Ok tt
 listed s xs cs f before room =
-    let all = count_all 0 xs cs f.each_stand in
+    let all = count_all 0 xs cs (walked_on xs cs (each_of s xs cs f)) in
     let places = length before.memory in
     ap (λ b. cond b (cond (leb (length (planned 0 xs cs)) places) (Ok tt) (Err NoRoom)) (Err NoSetup)) f.stand
     ∙ ap (λ b. cond b (Ok tt) (Err NoRoom))
