@@ -6,7 +6,7 @@ use Rattle.refusal.specs.declared.Refusal.TheVariants as no
 use Rattle.ballot.specs.declared.Kind.TheVariants.{Plurality}
 use Rattle.setup.specs.declared.setup.PolicyChoice.TheVariants.{Fixed}
 use Rattle.setup.specs.declared.setup.Setup.{Setup}
-use Rattle.setup.specs.Reading.{HeldLists, Outcome, reading}
+use Rattle.setup.specs.Steps.{HeldLists, Outcome, read_by_steps}
 use Rattle.assertion.specs.Assertions.{planned, share}
 
 -- The file, with these votes; its last candidate stands at 38.
@@ -32,7 +32,7 @@ memory =
     }
 
 unfoldable pub read : ℕ → ℕ → Outcome
-read a b = reading memory (two_thirds a b)
+read a b = read_by_steps memory (two_thirds a b)
 
 unfoldable pub answered : ℕ → ℕ → Result Setup Fault
 answered a b = (read a b).answer

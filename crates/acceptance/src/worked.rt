@@ -5,9 +5,7 @@ ghost use Rattle.acceptance.specs.TwoThirds.{answered, at_60, at_61, WorkedTwoTh
 use ballot::{Batch, Candidate, Contest, Kind};
 use bounded::List;
 use refusal::Fault;
-use setup::lists::Lists;
-use setup::read::read_setup;
-use setup::setup::Setup;
+use setup::{Lists, Setup, read_setup};
 
 /// Reads the setup of 90 cards and a contest for a share of 2/3 between two candidates with these
 /// votes.

@@ -12,7 +12,7 @@ use Rattle.ballot.specs.Contests.{SeatsFit}
 use Rattle.ballot.specs.Votes.{TrulyWon, gives_any, gives_vote, marks_of}
 use Rattle.ballot.specs.Winners.{Ahead, losers, winners, wins}
 use Rattle.assertion.specs.declared.assertions.Planned.{Planned}
-use Rattle.assertion.specs.Assertions.{Plan, meant, pair_plan, pairs_of, pairs_under, planned, planned_by, planned_of, share_plan, shares_of}
+use Rattle.assertion.specs.Assertions.{Plan, plan_of, pair_plan, pairs_of, pairs_under, planned, planned_by, planned_of, share_plan, shares_of}
 use Rattle.assertion.proofs.Parts.{WalkedOn, walked_on}
 use Rattle.assorter.specs.Law.{JustWhen}
 use Rattle.assorter.specs.Outcomes.{AllHold, AllWon, ClaimsTellContest, ClaimsTellContests, TellsContest, TellsContests}
@@ -119,8 +119,8 @@ pub claims_tell_contests : ClaimsTellContests
 claims_tell_contests k xs cs h cards = told k xs cs (walked_on xs cs h) cards
 
 -- An answer on all the claims of the listed assertions is the answer on the outcome.
-module _ (r : Bool) (assertions : List Planned) (cards : List Card) (d : Decides r (AllHold (map meant assertions) cards)) where
-  decides_for : (plans : List Plan) (W : Type 0) → map meant assertions ≡ plans → JustWhen (AllHold plans cards) W → Decides r W
+module _ (r : Bool) (assertions : List Planned) (cards : List Card) (d : Decides r (AllHold (map plan_of assertions) cards)) where
+  decides_for : (plans : List Plan) (W : Type 0) → map plan_of assertions ≡ plans → JustWhen (AllHold plans cards) W → Decides r W
   decides_for plans W e j =
       let P : List Plan → Type 0 = λ ps. AllHold ps cards in
       (λ t. j.0 (subst P e (d.0 t)), λ w. d.1 (subst P (sym e) (j.1 w)))

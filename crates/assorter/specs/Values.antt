@@ -1,5 +1,5 @@
 -- What a claim says of a list of cards, and what one card is worth to it.
-use Rattle.std.specs.Prelude.{ℕ, ◌*◌, ◌<◌, Bool, cond, ◌&&◌, ◌||◌, List, count_by, ◌==◌, count_ones, nat_le}
+use Rattle.std.specs.Prelude.{ℕ, ◌*◌, ◌<◌, Bool, ◌&&◌, ◌||◌, List, count_by, ◌==◌, count_ones, nat_le, if◌then◌else◌}
 use Rattle.ballot.specs.declared.Card.{Card}
 use Rattle.ballot.specs.Votes.{marked, marks_of}
 use Rattle.assertion.specs.Assertions.{Claim, pair, share}
@@ -26,11 +26,11 @@ Holds (share k w p q) cards =
 
 -- 2 for a vote for the winner alone, 0 for the loser alone, otherwise 1.
 abbrev pub pair_value : Bool → Bool → ℕ
-pair_value winner loser = cond winner (cond loser 1 2) (cond loser 0 1)
+pair_value winner loser = if winner then (if loser then 1 else 2) else (if loser then 0 else 1)
 
 -- q for a vote for the winner, 0 for a vote for another, p for no vote.
 abbrev pub share_value : ℕ → ℕ → Bool → Bool → ℕ
-share_value p q vote winner = cond vote (cond winner q 0) p
+share_value p q vote winner = if vote then (if winner then q else 0) else p
 
 -- What a card is worth to a claim.
 abbrev pub worth : Claim → Card → ℕ

@@ -1,6 +1,6 @@
-ghost use Rattle.std.specs.Prelude.{map, Decides};
+ghost use Rattle.std.specs.Prelude.{map, ◌↔◌, IsTrue};
 ghost use Rattle.ballot.specs.Votes.{VotesAddUp};
-ghost use Rattle.assertion.specs.Assertions.{meant};
+ghost use Rattle.assertion.specs.Assertions.{plan_of};
 ghost use Rattle.assorter.specs.Outcomes.{AllHold, ClaimsTellContest, ClaimsTellContests, TellsContest, TellsContests};
 
 use super::assorters::Assorter;
@@ -9,7 +9,7 @@ use ballot::Card;
 
 /// Whether the claim is true of these cards, by their values; 128 bits hold the sum of any slice.
 pub fn holds<A: Assorter>(assorter: &A, cards: &[Card]) -> bool
-    ensures { Decides result (A.claims assorter.now cards.now) }
+    ensures { IsTrue result ↔ A.claims assorter.now cards.now }
 {
     let sum: u128 = cards
         .iter()
@@ -22,7 +22,7 @@ pub fn holds<A: Assorter>(assorter: &A, cards: &[Card]) -> bool
 /// Whether the claims of all these assertions are true of the cards. Of the assertions that a
 /// contest makes, that is whether its reported winners truly won.
 pub fn all_hold(assertions: &[Planned], cards: &[Card]) -> bool
-    ensures decides { Decides result (AllHold (map meant assertions.now) cards.now) }
+    ensures decides { IsTrue result ↔ AllHold (map plan_of assertions.now) cards.now }
     ensures contest { TellsContest result assertions.now cards.now }
     ensures contests { TellsContests result assertions.now cards.now }
     ensures means { (ClaimsTellContest) × (ClaimsTellContests) }

@@ -22,8 +22,8 @@ account state x = record {
 }
 
 -- The account of an assertion that has seen no card.
-abbrev pub opened : {A S : Type 0} → A → S → Account A S
-opened a s = record { assorter = a; state = s; wealth = 1000000000; peak = 1000000000; tally = 0 }
+abbrev pub fresh_account : {A S : Type 0} → A → S → Account A S
+fresh_account a s = record { assorter = a; state = s; wealth = 1000000000; peak = 1000000000; tally = 0 }
 
 -- The account after a bet on a card of this value; the policy is told the value after its bet.
 abbrev pub moved : {A S : Type 0} → (S → ℕ) → (S → ℕ → S) → ℕ → ℕ → Account A S → Account A S

@@ -1,6 +1,6 @@
 -- Examples that can be worked out by hand.
 use Rattle.std.specs.Prelude.{◌≡◌, ℕ, List, [], ◌∷◌, replicate}
-use Rattle.betting.specs.Accounts.{Account, opened, played}
+use Rattle.betting.specs.Accounts.{Account, fresh_account, played}
 use Rattle.betting.specs.Shrinks.{fresh, shrinking_bet, told_all}
 use Rattle.betting.specs.Sums.{risk_of, wealth_after}
 
@@ -10,7 +10,7 @@ after bet half [] x = x
 after bet half (v ∷ vs) x = after bet half vs (played (λ _. bet) (λ s _. s) half v 50 x)
 
 abbrev pub from_start : ℕ → ℕ → List ℕ → Account ℕ ℕ
-from_start bet half vs = after bet half vs (opened 0 0)
+from_start bet half vs = after bet half vs (fresh_account 0 0)
 
 -- A pair has half 1; a win has the value 2, and a loss 0.
 pub record WorkedWealth : Type 0 where

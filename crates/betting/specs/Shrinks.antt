@@ -21,8 +21,8 @@ abbrev pub fresh : ℕ → ℕ → ℕ → ℕ → Shrinks
 fresh first weight half top =
     record { first = first; weight = weight; half = half; top = top; counted = 0; excess = pos 0 }
 
-abbrev pub begun : ℕ → ℕ → ℕ → ℕ → Option Shrinks
-begun first weight half top =
+abbrev pub shrinking_from : ℕ → ℕ → ℕ → ℕ → Option Shrinks
+shrinking_from first weight half top =
     if begins_in_range first weight half top then Some (fresh first weight half top) else None
 
 -- A number, or 0 for one below 0.
@@ -45,8 +45,8 @@ abbrev pub counts_as : Shrinks → ℕ → ℕ
 counts_as s v = min v s.top
 
 -- Half speaks for nothing, and once enough values are counted the policy stands still.
-abbrev pub stays : Shrinks → ℕ → Bool
-stays s v = counts_as s v == s.half || nat_le last_counted s.counted
+abbrev pub stands_still : Shrinks → ℕ → Bool
+stands_still s v = counts_as s v == s.half || nat_le last_counted s.counted
 
 abbrev pub one_more : Shrinks → ℕ → Shrinks
 one_more s v = record s {
@@ -55,7 +55,7 @@ one_more s v = record s {
 }
 
 abbrev pub shrinking_told : Shrinks → ℕ → Shrinks
-shrinking_told s v = if stays s v then s else one_more s v
+shrinking_told s v = if stands_still s v then s else one_more s v
 
 -- A whole run: the state after these values, how many of them differ from half, and the sum of the values less half.
 abbrev pub told_all : Shrinks → List ℕ → Shrinks

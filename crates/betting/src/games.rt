@@ -1,5 +1,5 @@
 ghost use Rattle.std.specs.Prelude.{◌≡◌, ◌≤◌, ◌↔◌, IsTrue};
-ghost use Rattle.betting.specs.Accounts.{account, cut, InRange, opened, played, tallied};
+ghost use Rattle.betting.specs.Accounts.{account, cut, InRange, fresh_account, played, tallied};
 ghost use Rattle.betting.specs.Sums.{risk_of, settled};
 
 use super::policy::Policy;
@@ -18,7 +18,7 @@ const LAST_TALLY: u32 = 65_535_000;
 impl<A, P: Policy> Record<A, P> {
     /// The record of an assertion that has seen no card.
     pub fn start(assorter: A, policy: P) -> Record<A, P>
-        ensures { account P.state result ≡ opened assorter (P.state policy) }
+        ensures { account P.state result ≡ fresh_account assorter (P.state policy) }
     {
         Record {
             assorter,

@@ -1,5 +1,5 @@
 ghost use Rattle.std.specs.Prelude.{◌≡◌, ℕ, min};
-ghost use Rattle.betting.specs.Shrinks.{begun, RunsByTheRule, shrinking_bet, shrinking_told, Shrinks};
+ghost use Rattle.betting.specs.Shrinks.{shrinking_from, RunsByTheRule, shrinking_bet, shrinking_told, Shrinks};
 ghost use Rattle.betting.specs.Policies.{chosen_bet, chosen_state, chosen_told, Chosen, in_state, shrinks};
 ghost use Rattle.std.proofs.Common.{rules, arith};
 
@@ -41,7 +41,7 @@ impl Shrinking {
     // The four come together only in this call; what holds them from then on is the policy itself.
     #[tactic(auto, using(crate::proofs::Runs::runs))]
     pub fn new(first: u16, weight: u16, half: u16, top: u16) -> Option<Shrinking>
-        ensures is { in_state result ≡ begun first weight half top }
+        ensures is { in_state result ≡ shrinking_from first weight half top }
         ensures runs { RunsByTheRule first weight half top }
     {
         let begins = first <= 1000 && (1..=1000).contains(&weight);

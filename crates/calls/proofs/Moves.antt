@@ -5,7 +5,7 @@ use Rattle.std.specs.Bool.{IsTrue}
 use Rattle.std.proofs.lemmas.List.{length-take, map-append, take-map, take_at}
 use Rattle.ballot.specs.declared.Card.{Card}
 use Rattle.betting.specs.Accounts.{Account, played, tallied}
-use Rattle.course.specs.Terms.{Shown}
+use Rattle.course.specs.Terms.{Reading}
 use Rattle.course.specs.Course.{Rules, after_count, after_entry, all_settled, shown_value}
 use Rattle.walks.specs.Walks.{as_found}
 use Rattle.calls.specs.Answers.{found_card}
@@ -23,7 +23,7 @@ module _ {A S : Type 0} (R : Rules A S) where
   worth card true a = refl
   worth card false a = refl
 
-  module _ (e : Shown) (o : Option Card) (is : o ≡ found_card e) where
+  module _ (e : Reading) (o : Option Card) (is : o ≡ found_card e) where
     alike : (a : A) → shown_value R a (as_found o) ≡ shown_value R a e
     alike a = ap (λ c. shown_value R a (as_found c)) is ∙ worth e.card (eqb e.found 0) a
 

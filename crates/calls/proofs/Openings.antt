@@ -18,7 +18,7 @@ use Rattle.acceptance.proofs.Opening.{each_of, OpeningFacts, opening_facts}
 use Rattle.assertion.specs.declared.assertions.Assertion.{Assertion}
 use Rattle.assertion.specs.Assertions.{Claim, Plan, claim_of, planned}
 use Rattle.assorter.proofs.Lists.{all_from_map}
-use Rattle.betting.specs.Accounts.{Account, opened}
+use Rattle.betting.specs.Accounts.{Account, fresh_account}
 use Rattle.betting.specs.Policies.{Chosen}
 use Rattle.course.specs.Terms as course
 use Rattle.course.specs.Course.{Rules, State}
@@ -51,7 +51,7 @@ had_enough false done e = refl
 
 module _ {A S : Type 0} where
   abbrev Fresh : Account A S → Type 0
-  Fresh x = x ≡ opened x.assorter x.state
+  Fresh x = x ≡ fresh_account x.assorter x.state
 
   pub begun_by :
       (R : Rules A S) (s : Setup) (xs : List Contest) (accounts : List (Account A S)) (audit : Audit) → OfSetup s xs audit →
@@ -109,15 +109,15 @@ module _ {A P S : Type 0} (st : P → S) (xs : List A) (ps : List P) where
 abbrev Unseen : Account Claim Chosen → Type 0
 Unseen z = (z.wealth ≡ 1000000000) × (z.peak ≡ 1000000000) × (z.tally ≡ 0)
 
-unseen_fresh : (x : Account Assertion Chosen) → Unseen (by_claim x) → x ≡ opened x.assorter x.state
+unseen_fresh : (x : Account Assertion Chosen) → Unseen (by_claim x) → x ≡ fresh_account x.assorter x.state
 unseen_fresh x h =
     ap (λ w. record x { wealth = w }) h.0 ∙ ap (λ p. record x { wealth = 1000000000; peak = p }) h.1
     ∙ ap (λ n. record x { wealth = 1000000000; peak = 1000000000; tally = n }) h.2
 
 module _ (choice : PolicyChoice) (plans : List Plan) (ys : List (Account Assertion Chosen)) (same : map by_claim ys ≡ map (plan_account choice) plans) where
-  planned_fresh : AllByRecursion (λ x. x ≡ opened x.assorter x.state) ys
+  planned_fresh : AllByRecursion (λ x. x ≡ fresh_account x.assorter x.state) ys
   planned_fresh =
-      All-weaker (λ x. Unseen (by_claim x)) (λ x. x ≡ opened x.assorter x.state) unseen_fresh ys
+      All-weaker (λ x. Unseen (by_claim x)) (λ x. x ≡ fresh_account x.assorter x.state) unseen_fresh ys
       (all_from_map Unseen by_claim ys
       (subst (AllByRecursion Unseen) (sym same)
       (All-map Unseen (plan_account choice) plans (all_of (λ plan. Unseen (plan_account choice plan)) (λ _. (refl, refl, refl)) plans))))

@@ -24,13 +24,13 @@ use Rattle.acceptance.proofs.Opening.{OpeningFacts, each_of}
 use Rattle.assertion.specs.declared.assertions.Assertion.{Assertion}
 use Rattle.assertion.specs.declared.assertions.Assertion.TheVariants.{Pair, Share}
 use Rattle.assertion.specs.declared.assertions.Planned.{Planned}
-use Rattle.assertion.specs.Assertions.{Plan, claim_of, list_answer, meant, pair_plan, pairs_of, pairs_under, planned, planned_by, planned_of, share_plan}
+use Rattle.assertion.specs.Assertions.{Plan, claim_of, list_answer, plan_of, pair_plan, pairs_of, pairs_under, planned, planned_by, planned_of, share_plan}
 use Rattle.assertion.specs.Bets.{bet_range, pair_bet, share_bet}
 use Rattle.assertion.specs.Values.{half_of, top_of}
 use Rattle.assertion.proofs.Parts.{walked_on}
 use Rattle.assertion.proofs.Totals.{count_all}
 use Rattle.assorter.proofs.Lists.{all_from_map, all_joined}
-use Rattle.betting.specs.Accounts.{Account, opened}
+use Rattle.betting.specs.Accounts.{Account, fresh_account}
 use Rattle.betting.specs.Policies.{Chosen}
 use Rattle.betting.specs.Shrinks.{begins_in_range, fresh}
 use Rattle.opening.specs.Starts.{after_start, shrinking_or, start_answer, started_plan}
@@ -91,12 +91,12 @@ spread_of (Share a) = a.share
 
 start_as_planned :
     (choice : PolicyChoice) → PolicyFits choice → (x : Planned) → x.first_bet ≤ 1000 →
-    by_claim (started_plan choice x) ≡ plan_account choice (meant x)
+    by_claim (started_plan choice x) ≡ plan_account choice (plan_of x)
 start_as_planned Fixed fits x low = refl
 start_as_planned (Shrinking w) fits x low =
     let a = x.assertion in
     let bet = x.first_bet in
-    ap (λ b. opened (claim_of a) (shrinking_or bet (cond b (Some (fresh bet w (half_of a) (top_of a))) None)))
+    ap (λ b. fresh_account (claim_of a) (shrinking_or bet (cond b (Some (fresh bet w (half_of a) (top_of a))) None)))
     (begins bet w (half_of a) (top_of a) low fits (spread_of a))
 
 -- ---- there is memory for all assertions
@@ -113,26 +113,26 @@ listed s xs cs f before room =
 
 -- ---- the records that a start leaves
 
-module _ (s : Setup) (xs : List Contest) (cs : List Candidate) (f : OpeningFacts s xs cs) (items : List Planned) (same : map meant items ≡ planned 0 xs cs) (count : length items ≡ sum_by assertion_count xs) where
+module _ (s : Setup) (xs : List Contest) (cs : List Candidate) (f : OpeningFacts s xs cs) (items : List Planned) (same : map plan_of items ≡ planned 0 xs cs) (count : length items ≡ sum_by assertion_count xs) where
   as_many : length items ≡ s.assertions
   as_many = count ∙ f.assertions
 
   abbrev policy : PolicyChoice
   policy = s.terms.policy
 
-  each_starts : map (λ x. by_claim (started_plan policy x)) items ≡ map (λ x. plan_account policy (meant x)) items
+  each_starts : map (λ x. by_claim (started_plan policy x)) items ≡ map (λ x. plan_account policy (plan_of x)) items
   each_starts =
-      map_same (λ x. by_claim (started_plan policy x)) (λ x. plan_account policy (meant x)) items
-      (All-weaker (λ x. x.first_bet ≤ 1000) (λ x. by_claim (started_plan policy x) ≡ plan_account policy (meant x))
+      map_same (λ x. by_claim (started_plan policy x)) (λ x. plan_account policy (plan_of x)) items
+      (All-weaker (λ x. x.first_bet ≤ 1000) (λ x. by_claim (started_plan policy x) ≡ plan_account policy (plan_of x))
       (start_as_planned policy f.policy_fits) items
-      (all_from_map Low meant items (subst (AllByRecursion Low) (sym same) (all_low 0 xs cs))))
+      (all_from_map Low plan_of items (subst (AllByRecursion Low) (sym same) (all_low 0 xs cs))))
 
   all_start : (old new : List (Account Assertion Chosen)) → new ≡ map (started_plan policy) items ++ drop (length items) old → AsPlanned s xs cs new
   all_start old new e =
       ap (λ ys. map by_claim (take s.assertions ys)) e
       ∙ ap (map by_claim)
       (take_at (map (started_plan policy) items) (drop (length items) old) s.assertions (length-map items (started_plan policy) ∙ as_many))
-      ∙ map-map by_claim (started_plan policy) items ∙ each_starts ∙ sym (map-map (plan_account policy) meant items)
+      ∙ map-map by_claim (started_plan policy) items ∙ each_starts ∙ sym (map-map (plan_account policy) plan_of items)
       ∙ ap (map (plan_account policy)) same
 
   pub start_planned :

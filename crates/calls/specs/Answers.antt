@@ -7,13 +7,13 @@ use Rattle.assorter.specs.Law.{JustWhen}
 use Rattle.verdict.specs.declared.Finding.TheVariants.{Confirm}
 use Rattle.verdict.specs.declared.Verdict.{Verdict}
 use Rattle.verdict.specs.Contests.{contest_risks}
-use Rattle.course.specs.Terms.{Shown, Terms}
+use Rattle.course.specs.Terms.{Reading, Terms}
 use Rattle.course.specs.Course.{Call, Rules, State}
 use Rattle.course.specs.Bounds.{Opened}
 use Rattle.course.specs.Laws.{left_by, taken_entries}
 
 -- The card, where it is not missing.
-abbrev pub found_card : Shown → Option Card
+abbrev pub found_card : Reading → Option Card
 found_card e = if e.found == 0 then None else Some e.card
 
 -- The refusal, if there is one.

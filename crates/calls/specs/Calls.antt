@@ -7,7 +7,7 @@ use Rattle.refusal.specs.declared.Refusal.TheVariants.{NoRoom}
 use Rattle.ballot.specs.declared.Card.{Card}
 use Rattle.betting.specs.Accounts.{Account}
 use Rattle.verdict.specs.Contests.{closing_on, verdict_on}
-use Rattle.course.specs.Terms.{Shown, Terms}
+use Rattle.course.specs.Terms.{Reading, Terms}
 use Rattle.course.specs.Course.{Answer, Call, Rules, State, answered, course, refusal_of, unless_refused}
 use Rattle.course.specs.Course.Answer.{refused, taken, finding, upheld}
 use Rattle.course.specs.Course.Call.{entry, verdict, escalation, hand_count, closing}
@@ -17,7 +17,7 @@ use Rattle.calls.specs.declared.answers.CountCall.{CountCall}
 use Rattle.calls.specs.declared.answers.CountCall.TheVariants.{Count, Close}
 use Rattle.calls.specs.declared.answers.DrawCall.{DrawCall}
 use Rattle.calls.specs.declared.answers.DrawCall.TheVariants.{Entry, Verdict}
-use Rattle.calls.specs.declared.answers.Shown.{Shown as CodeShown}
+use Rattle.calls.specs.declared.answers.Reading.{Reading as CodeReading}
 use Rattle.calls.specs.declared.answers.Standing.{Standing}
 use Rattle.calls.specs.declared.answers.Standing.TheVariants.{Drawing, Counting}
 use Rattle.calls.specs.declared.counting.HandCount.{HandCount}
@@ -35,18 +35,18 @@ terms_of t = record {
   assertions = map (λ x. x.assertions) t.sizes.items;
 }
 
-abbrev pub shown : ℕ → ℕ → Card → Shown
-shown p f x = record { place = p; found = f; card = x }
+abbrev pub reading : ℕ → ℕ → Card → Reading
+reading p f x = record { place = p; found = f; card = x }
 
-abbrev pub shown_of : CodeShown → Shown
-shown_of x = shown x.place x.found x.card
+abbrev pub reading_of : CodeReading → Reading
+reading_of x = reading x.place x.found x.card
 
 abbrev pub draw_call : DrawCall → Call
-draw_call (Entry x) = entry (shown_of x)
+draw_call (Entry x) = entry (reading_of x)
 draw_call Verdict = verdict
 
 abbrev pub count_call : CountCall → Call
-count_call (Count x) = hand_count (shown_of x)
+count_call (Count x) = hand_count (reading_of x)
 count_call Close = closing
 
 -- ---- answers

@@ -12,7 +12,7 @@ use Rattle.acceptance.specs.Held.{HoldsSetup}
 use Rattle.assertion.specs.declared.assertions.Assertion.{Assertion}
 use Rattle.assertion.specs.Assertions.{Claim, Plan, claim_of, planned}
 use Rattle.assertion.specs.Values.{half_at, top_at}
-use Rattle.betting.specs.Accounts.{Account, opened}
+use Rattle.betting.specs.Accounts.{Account, fresh_account}
 use Rattle.betting.specs.Policies.{Chosen, always, shrinking}
 use Rattle.betting.specs.Shrinks.{fresh}
 use Rattle.course.specs.Terms as course
@@ -96,7 +96,7 @@ first_policy (Shrinking weight) plan =
     shrinking (fresh plan.bet weight (half_at plan.claim) (top_at plan.claim))
 
 abbrev pub plan_account : PolicyChoice → Plan → Account Claim Chosen
-plan_account choice plan = opened plan.claim (first_policy choice plan)
+plan_account choice plan = fresh_account plan.claim (first_policy choice plan)
 
 -- An account by what its assertion claims.
 abbrev pub by_claim : Account Assertion Chosen → Account Claim Chosen

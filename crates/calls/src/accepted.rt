@@ -13,13 +13,12 @@ use crate::terms::{Size, Terms};
 use arrayvec::ArrayVec;
 use assertion::{Assertion, Planned, list_assertions};
 use assorter::Assorter;
-use ballot::limits::{ASSERTIONS, CONTESTS};
-use ballot::{Candidate, Contest};
+use ballot::{ASSERTIONS, CONTESTS, Candidate, Contest};
 use betting::{ChosenPolicy, Policy, Record};
 use bounded::List;
 use opening::start_records;
 use refusal::Refusal;
-use setup::setup::Setup;
+use setup::Setup;
 
 /// An accepted setup, with its lists as read.
 #[derive(Clone, Copy)]

@@ -8,20 +8,20 @@ use verdict::{Closing, Verdict};
 // The found byte stays as it was read, beside the card: a call answers what is neither 0 nor 1 with
 // a refusal.
 #[derive(Clone, Copy)]
-pub struct Shown {
+pub struct Reading {
     pub place: u16,
     pub found: u8,
     pub card: Card,
 }
 
-impl Shown {
+impl Reading {
     ghost use Rattle.std.specs.Prelude.{◌≡◌, option_copied};
     ghost use Rattle.calls.specs.Answers.{found_card};
-    ghost use Rattle.calls.specs.Calls.{shown_of};
+    ghost use Rattle.calls.specs.Calls.{reading_of};
 
     /// The card, if it was found.
     pub(crate) fn found_card(&self) -> Option<&Card>
-        ensures { option_copied result ≡ found_card (shown_of self.now) }
+        ensures { option_copied result ≡ found_card (reading_of self.now) }
     {
         if self.found == 0 {
             None
@@ -35,14 +35,14 @@ impl Shown {
 #[derive(Clone, Copy)]
 pub enum DrawCall {
     Verdict,
-    Entry(Shown),
+    Entry(Reading),
 }
 
 /// A call after the escalation.
 #[derive(Clone, Copy)]
 pub enum CountCall {
     Close,
-    Count(Shown),
+    Count(Reading),
 }
 
 /// What a call answers that is not refused.

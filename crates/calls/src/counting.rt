@@ -1,7 +1,7 @@
 //! An audit that counts every card by hand, and its calls.
 ghost use Rattle.std.specs.Prelude.{◌≡◌, ◌≤◌};
 
-use crate::answers::Shown;
+use crate::answers::Reading;
 use crate::terms::{Terms, check_shown, contests_above};
 use assorter::Assorter;
 use betting::{Policy, Record};
@@ -27,16 +27,16 @@ impl HandCount {
     ghost use Rattle.course.specs.Course.{rules_of};
     ghost use Rattle.course.specs.Course.Call.{closing, hand_count};
     ghost use Rattle.calls.specs.Answers.{KeptOnRefusal, refusal_in};
-    ghost use Rattle.calls.specs.Calls.{answer_as, called, count_state, first_refusal, in_code, shown_of, terms_of};
+    ghost use Rattle.calls.specs.Calls.{answer_as, called, count_state, first_refusal, in_code, reading_of, terms_of};
     ghost use Rattle.calls.specs.declared.answers.Answer.TheVariants as answer;
 
     /// Refuses a count with its first refusal.
     fn check_count<A, P: Policy>(
         &self,
         records: &[Record<A, P>],
-        shown: &Shown,
+        shown: &Reading,
     ) -> Result<(), Refusal>
-        ensures { refusal_in result ≡ first_refusal (terms_of self.now.terms) (length records.now) (count_state self.now (map (account P.state) records.now)) (hand_count (shown_of shown.now)) }
+        ensures { refusal_in result ≡ first_refusal (terms_of self.now.terms) (length records.now) (count_state self.now (map (account P.state) records.now)) (hand_count (reading_of shown.now)) }
     {
         self.terms.own(records)?;
         check_shown(&self.terms, shown)?;
@@ -52,9 +52,9 @@ impl HandCount {
     pub fn count<A: Assorter, P: Policy>(
         &mut self,
         records: &mut [Record<A, P>],
-        shown: &Shown,
+        shown: &Reading,
     ) -> Result<(), Refusal>
-        ensures course { (count_state self.new (map (account P.state) records.new), answer_as (λ done. answer.Taken) result) ≡ in_code (called (rules_of A.Assorter P.Policy) (terms_of self.old.terms) (length records.old) (count_state self.old (map (account P.state) records.old)) (hand_count (shown_of shown.now))) }
+        ensures course { (count_state self.new (map (account P.state) records.new), answer_as (λ done. answer.Taken) result) ≡ in_code (called (rules_of A.Assorter P.Policy) (terms_of self.old.terms) (length records.old) (count_state self.old (map (account P.state) records.old)) (hand_count (reading_of shown.now))) }
         ensures terms { self.new.terms ≡ self.old.terms }
         ensures beyond { drop self.old.terms.needed records.new ≡ drop self.old.terms.needed records.old }
         ensures kept { (KeptOnRefusal result self.old self.new) × (KeptOnRefusal result records.old records.new) }

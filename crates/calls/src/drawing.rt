@@ -2,7 +2,7 @@
 ghost use Rattle.std.specs.Prelude.{◌≡◌, ◌≤◌, if◌then◌else◌};
 ghost use Rattle.verdict.specs.declared.Finding.TheVariants.{Confirm, Continue, FullHandCount};
 
-use crate::answers::Shown;
+use crate::answers::Reading;
 use crate::counting::HandCount;
 use crate::terms::{Terms, check_shown, contest_risks};
 use assorter::Assorter;
@@ -31,7 +31,7 @@ impl Audit {
     ghost use Rattle.course.specs.Openings.{own_rules};
     ghost use Rattle.walks.specs.Walks.{settled_front};
     ghost use Rattle.calls.specs.Answers.{ConfirmsByRisk, CountsEntries, DrawsWithin, KeptOnRefusal, refusal_in};
-    ghost use Rattle.calls.specs.Calls.{answer_as, audit_state, called, Escalated, first_refusal, in_code, shown_of, terms_of};
+    ghost use Rattle.calls.specs.Calls.{answer_as, audit_state, called, Escalated, first_refusal, in_code, reading_of, terms_of};
     ghost use Rattle.calls.specs.declared.answers.Answer.TheVariants as answer;
 
     /// How many records each call needs: one for each assertion.
@@ -59,9 +59,9 @@ impl Audit {
     fn check_entry<A, P: Policy>(
         &self,
         records: &[Record<A, P>],
-        shown: &Shown,
+        shown: &Reading,
     ) -> Result<usize, Refusal>
-        ensures refuses { refusal_in result ≡ first_refusal (terms_of self.now.terms) (length records.now) (audit_state self.now (map (account P.state) records.now)) (entry (shown_of shown.now)) }
+        ensures refuses { refusal_in result ≡ first_refusal (terms_of self.now.terms) (length records.now) (audit_state self.now (map (account P.state) records.now)) (entry (reading_of shown.now)) }
         ensures before { IfOk result (λ first. IsTrue (all_settled self.now.terms.risk_limit (take first (audit_state self.now (map (account P.state) records.now)).accounts))) }
     {
         let own = self.terms.own(records)?;
@@ -75,9 +75,9 @@ impl Audit {
     pub fn enter<A: Assorter + Copy, P: Policy + Copy>(
         &mut self,
         records: &mut [Record<A, P>],
-        shown: &Shown,
+        shown: &Reading,
     ) -> Result<(), Refusal>
-        ensures course { (audit_state self.new (map (account P.state) records.new), answer_as (λ done. answer.Taken) result) ≡ in_code (called (rules_of A.Assorter P.Policy) (terms_of self.old.terms) (length records.old) (audit_state self.old (map (account P.state) records.old)) (entry (shown_of shown.now))) }
+        ensures course { (audit_state self.new (map (account P.state) records.new), answer_as (λ done. answer.Taken) result) ≡ in_code (called (rules_of A.Assorter P.Policy) (terms_of self.old.terms) (length records.old) (audit_state self.old (map (account P.state) records.old)) (entry (reading_of shown.now))) }
         ensures terms { self.new.terms ≡ self.old.terms }
         ensures beyond { drop self.old.terms.needed records.new ≡ drop self.old.terms.needed records.old }
         ensures kept { (KeptOnRefusal result self.old self.new) × (KeptOnRefusal result records.old records.new) }

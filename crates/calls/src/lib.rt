@@ -10,7 +10,7 @@ mod opens;
 mod stage;
 mod terms;
 
-pub use answers::{Answer, CountCall, DrawCall, Shown, Standing};
+pub use answers::{Answer, CountCall, DrawCall, Reading, Standing};
 pub use counting::HandCount;
 pub use drawing::Audit;
 pub use opens::{NotOpened, open, open_with};

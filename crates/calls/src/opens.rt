@@ -17,7 +17,7 @@ use ballot::{Candidate, Contest};
 use betting::{ChosenPolicy, Policy, Record};
 use opening::start_with;
 use refusal::Refusal;
-use setup::setup::Setup;
+use setup::Setup;
 
 /// A setup that was not opened, and is given back.
 #[derive(Drop)]

@@ -5,7 +5,7 @@ mod contests;
 mod showing;
 
 use arrayvec::ArrayVec;
-use ballot::limits::CONTESTS;
+use ballot::CONTESTS;
 pub(crate) use contests::{contest_risks, contests_above};
 use refusal::Refusal;
 pub(crate) use showing::check_shown;

@@ -10,12 +10,14 @@ mod tests {
     use assertion::{Assertion, Share};
     use ballot::{Candidate, Card, Contest, Kind};
     use betting::{ChosenPolicy, Fixed, Record};
-    use calls::{Answer, Audit, CountCall, DrawCall, HandCount, Shown, Standing, open, open_with};
+    use calls::{
+        Answer, Audit, CountCall, DrawCall, HandCount, Reading, Standing, open, open_with,
+    };
     use conduct::conduct;
-    use format::count::commands_in;
+    use format::commands_in;
     use refusal::{Fault, File, Refusal};
     use replay::replay;
-    use setup::setup::{PolicyChoice, Setup, Terms};
+    use setup::{PolicyChoice, Setup, Terms};
     use std::process::Abort;
     use std::test::Fail;
     use verdict::{Closing, Finding, Verdict};
@@ -30,8 +32,8 @@ mod tests {
         marks: [0, 0, 0, 0, 0, 0, 0, 0],
     };
 
-    fn shown(place: u16, found: u8, card: Card) -> Shown {
-        Shown { place, found, card }
+    fn shown(place: u16, found: u8, card: Card) -> Reading {
+        Reading { place, found, card }
     }
 
     fn blank() -> Records {
@@ -97,7 +99,7 @@ mod tests {
         audit: &mut Audit,
         records: &mut [Record<Assertion, ChosenPolicy>],
         times: u8,
-        shown: &Shown,
+        shown: &Reading,
     ) {
         for _ in 0..times {
             assert_eq!(rt; audit.enter(records, shown), Ok(()));

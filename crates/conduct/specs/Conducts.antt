@@ -1,5 +1,5 @@
 -- What a whole list of calls answers and leaves.
-use Rattle.std.specs.Prelude.{◌≡◌, ℕ, cond, ◌||◌, List, [], ◌∷◌, ◌++◌, map, length, take, Some, None, Ok, Err, sum, Option, Result, nat_lt}
+use Rattle.std.specs.Prelude.{◌≡◌, ℕ, ◌||◌, List, [], ◌∷◌, ◌++◌, map, length, take, Some, None, Ok, Err, sum, Option, Result, nat_lt, if◌then◌else◌}
 use Rattle.std.specs.Borrow.{Bor}
 use Rattle.refusal.specs.declared.Refusal.{Refusal}
 use Rattle.refusal.specs.declared.Refusal.TheVariants.{NoRoom}
@@ -31,7 +31,8 @@ answers_by R t σ cs = map (λ x. code_answer x.1) (course R t σ cs)
 
 -- Too few records for the terms, or too few places for the answers, are refused before the first call.
 abbrev pub conduct_refusal : Terms → ℕ → ℕ → List Call → Option Refusal
-conduct_refusal t lent places cs = cond (nat_lt lent (sum t.assertions) || nat_lt places (length cs)) (Some NoRoom) None
+conduct_refusal t lent places cs =
+    if nat_lt lent (sum t.assertions) || nat_lt places (length cs) then Some NoRoom else None
 
 abbrev pub not_conducted : Result Standing NotConducted → Option Refusal
 not_conducted (Ok standing) = None

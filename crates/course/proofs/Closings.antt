@@ -7,12 +7,12 @@ use Rattle.refusal.specs.declared.Refusal.{Refusal}
 use Rattle.refusal.specs.declared.Refusal.TheVariants.{NotTheNextPlace}
 use Rattle.chance.specs.Sequences.{places}
 use Rattle.chance.proofs.Counts.{length_places}
-use Rattle.betting.specs.Accounts.{Account, opened}
-use Rattle.course.specs.Terms.{Terms, Shown, blank_card}
+use Rattle.betting.specs.Accounts.{Account, fresh_account}
+use Rattle.course.specs.Terms.{Terms, Reading, blank_card}
 use Rattle.course.specs.Course.{Rules, State, Call, Answer, after_count, after_entry, all_above, first_of, parts, refusal_of, shown_value, step}
 use Rattle.course.specs.Course.Call.{entry, verdict, escalation, hand_count, closing}
 use Rattle.course.specs.Course.Answer.{upheld}
-use Rattle.course.specs.Scripts.{Ballot, show_card, show_drawn, show_missing}
+use Rattle.course.specs.Scripts.{CastCards, show_card, show_drawn, show_missing}
 use Rattle.course.specs.Bounds.{Fits, Opened}
 use Rattle.course.specs.Laws.{BeforeEscalation, ClaimsHold, ClosesRightly, CountsDecide, counts_to, left_by}
 use Rattle.course.proofs.Steps.{by_cond, by_step, drawn_shown, taken_step}
@@ -60,7 +60,7 @@ module _ {A S : Type 0} (R : Rules A S) (t : Terms) where
   left_append σ [] ds = refl
   left_append σ (c ∷ cs) ds = left_append (step R t σ c).0 cs ds
 
-  module _ (b : Ballot) where
+  module _ (b : CastCards) where
     -- the values of the first n places, as they are shown
     abbrev total : A → ℕ → ℕ
     total a n = sum_by (λ i. shown_value R a (show_drawn b i)) (places n)
@@ -92,7 +92,7 @@ module _ {A S : Type 0} (R : Rules A S) (t : Terms) where
     before_run xs σ (c ∷ cs) h k = before_run xs (step R t σ c).0 cs h.1 (before_step xs σ c h.0 k)
 
     module _ (law : Lawful R) (fits : Fits t b) (few : t.cards ≤ 65535) where
-      shown_low : (a : A) (e : Shown) → shown_value R a e ≤ 1000
+      shown_low : (a : A) (e : Reading) → shown_value R a e ≤ 1000
       shown_low a e = by_cond (λ n. n ≤ 1000) (eqb e.found 0) (λ _. omega arith) (λ _. law.low_value a e.card)
 
       total_low : (a : A) (n : ℕ) → n ≤ t.cards → total a n ≤ 65535000
@@ -104,13 +104,13 @@ module _ {A S : Type 0} (R : Rules A S) (t : Terms) where
       count_refusal : (σ : State A S) (n : ℕ) → n < t.cards → σ.counted ≡ n → refusal_of t σ (hand_count (show_drawn b (suc n))) ≡ None
       count_refusal σ n h e =
           let clean = drawn_shown t b fits (suc n) (omega arith) h in
-          let place : (show_drawn b (suc n)).place ≡ suc n = by_cond (λ (s : Shown). s.place ≡ suc n) (b.missing (suc n)) (λ _. refl) (λ _. refl) in
+          let place : (show_drawn b (suc n)).place ≡ suc n = by_cond (λ (s : Reading). s.place ≡ suc n) (b.missing (suc n)) (λ _. refl) (λ _. refl) in
           let next : eqb (show_drawn b (suc n)).place (σ.counted + 1) ≡ true = eq-eqb _ _ (omega (arith, place)) in
           ap (λ (o : Option Refusal). first_of o (cond (eqb (show_drawn b (suc n)).place (σ.counted + 1)) None (Some NotTheNextPlace))) clean ∙ ap (λ (v : Bool). cond v None (Some NotTheNextPlace)) next
 
       count_step : (xs : List (Account A S)) (σ : State A S) (n : ℕ) → n < t.cards → CountedTo xs n σ → CountedTo xs (suc n) (step R t σ (hand_count (show_drawn b (suc n)))).0
       count_step xs σ n h k =
-          let e : Shown = show_drawn b (suc n) in
+          let e : Reading = show_drawn b (suc n) in
           let one : (x y : Account A S) → TalliedTo n x y → TalliedTo (suc n) x (after_count R e y) =
           λ x y r.
           let more = sum_by-cons (λ i. shown_value R x.assorter (show_drawn b i)) (suc n) (places n) in
@@ -135,7 +135,7 @@ module _ {A S : Type 0} (R : Rules A S) (t : Terms) where
       total_le : (a : A) → total a t.cards ≤ sum_by (R.value a) b.cards
       total_le a =
           le_trans
-          (sum_le _ (λ i. R.value a (get_or b.cards (i - 1) blank_card)) (places t.cards) (λ i. by_cond (λ (e : Shown). shown_value R a e ≤ R.value a (get_or b.cards (i - 1) blank_card)) (b.missing i) (λ _. omega arith) (λ _. le_refl _)))
+          (sum_le _ (λ i. R.value a (get_or b.cards (i - 1) blank_card)) (places t.cards) (λ i. by_cond (λ (e : Reading). shown_value R a e ≤ R.value a (get_or b.cards (i - 1) blank_card)) (b.missing i) (λ _. omega arith) (λ _. le_refl _)))
           (le_of_eq (cards_total a))
 
       total_ge : ((i : ℕ) → b.missing i ≡ false) → (a : A) → sum_by (R.value a) b.cards ≤ total a t.cards
@@ -164,7 +164,7 @@ module _ {A S : Type 0} (R : Rules A S) (t : Terms) where
           let half : R.half y.assorter * t.cards < y.tally = subst (λ n. R.half y.assorter * n < y.tally) fits.number (subst (λ a. R.half a * length b.cards < y.tally) (sym h.0.0) above) in
           and_from (ltb (R.half y.assorter * t.cards) y.tally) (all_above R t.cards ys) (lt-ltb _ _ half) (all_true found xs ys h.1 c.1)
 
-      fresh_tallies : (xs : List (Account A S)) → AllByRecursion (λ x. x ≡ opened x.assorter x.state) xs → AllByRecursion (λ x. TalliedTo 0 x x) xs
+      fresh_tallies : (xs : List (Account A S)) → AllByRecursion (λ x. x ≡ fresh_account x.assorter x.state) xs → AllByRecursion (λ x. TalliedTo 0 x x) xs
       fresh_tallies [] h = tt
       fresh_tallies (x ∷ xs) h = ((refl, ap (λ (y : Account A S). y.tally) h.0), fresh_tallies xs h.1)
 

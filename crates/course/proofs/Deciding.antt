@@ -12,7 +12,7 @@ use Rattle.verdict.specs.declared.Finding.TheVariants.{Confirm, Continue, FullHa
 use Rattle.course.specs.Terms.{Terms}
 use Rattle.course.specs.Course.{Rules, State, Answer, course, risks}
 use Rattle.course.specs.Course.Answer.{refused, taken, finding, upheld}
-use Rattle.course.specs.Scripts.{Ballot, calls, draws_in}
+use Rattle.course.specs.Scripts.{CastCards, calls, draws_in}
 use Rattle.course.specs.Bounds.{Any, accounts_of, Confirms, Contradicted, CountsExist, LowRisk, WrongAnswer}
 use Rattle.course.proofs.Rules.{Lawful}
 
@@ -71,7 +71,7 @@ module _ {A S : Type 0} (R : Rules A S) (law : Lawful R) where
       (λ low. inr (λ c. omega (arith, low, (law.exact a cards).0 c)))
       (cases_lt (R.half a * length cards) (sum_by (R.value a) cards))
 
-  module _ (t : Terms) (σ : State A S) (b : Ballot) where
+  module _ (t : Terms) (σ : State A S) (b : CastCards) where
     contradicted_decided : (k : ℕ) → Dec (Contradicted R t σ b k)
     contradicted_decided k = any_decided (λ x. R.claim x.assorter b.cards → ⊥) (λ x. not_decided (claim_or_not x.assorter b.cards)) (accounts_of R t σ k)
 

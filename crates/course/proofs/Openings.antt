@@ -19,11 +19,11 @@ use Rattle.assorter.specs.Law.{JustWhen}
 use Rattle.assorter.specs.Values.{Holds}
 use Rattle.assorter.proofs.Lists.{all_from_map}
 use Rattle.assorter.proofs.Means.{claims_tell_contest}
-use Rattle.betting.specs.Accounts.{Account, opened}
+use Rattle.betting.specs.Accounts.{Account, fresh_account}
 use Rattle.betting.specs.Policies.{Chosen}
 use Rattle.course.specs.Terms.{Terms}
 use Rattle.course.specs.Course.{State, parts}
-use Rattle.course.specs.Scripts.{Ballot}
+use Rattle.course.specs.Scripts.{CastCards}
 use Rattle.course.specs.Bounds.{Any, Opened, accounts_of, RiskLimited}
 use Rattle.course.specs.Laws.{ClaimsHold, CountsDecide}
 use Rattle.course.specs.Openings.{own_rules, ContradictedWhenLost, HandCountDecides, LimitsWrongBoards, Won}
@@ -36,7 +36,7 @@ pub record OwnAccounts (xs : List Contest) (cs : List Candidate) (t : Terms) (σ
   pub claims_are : map (λ x. claim_of x.assorter) σ.accounts ≡ map (λ plan. plan.claim) (planned 0 xs cs)
 
 -- accounts just opened have seen no card
-pub opened_all : {X A S : Type 0} (f : X → A) (g : X → S) (ys : List X) → AllByRecursion (λ x. x ≡ opened x.assorter x.state) (map (λ y. opened (f y) (g y)) ys)
+pub opened_all : {X A S : Type 0} (f : X → A) (g : X → S) (ys : List X) → AllByRecursion (λ x. x ≡ fresh_account x.assorter x.state) (map (λ y. fresh_account (f y) (g y)) ys)
 opened_all f g [] = tt
 opened_all f g (y ∷ ys) = (refl, opened_all f g ys)
 
@@ -106,7 +106,7 @@ part_won j (suc k) n e (x ∷ xs) cs ys h same cards =
     (λ all. (λ i. absurd (omega (arith, e, i)), tell.0 all), λ won. tell.1 won.1)
 
 module _ (xs : List Contest) (cs : List Candidate) (t : Terms) (σ : State Assertion Chosen) (own : OwnAccounts xs cs t σ) where
-  claims_tell_won : (b : Ballot) (k : ℕ) → JustWhen (ClaimsHold own_rules t σ b k) (Won k xs cs b.cards)
+  claims_tell_won : (b : CastCards) (k : ℕ) → JustWhen (ClaimsHold own_rules t σ b k) (Won k xs cs b.cards)
   claims_tell_won b k =
       let P : Account Assertion Chosen → Type 0 = λ x. Holds (says x) b.cards in
       subst (λ ns. JustWhen (AllByRecursion P (get_or (parts ns σ.accounts) k [])) (Won k xs cs b.cards)) (sym own.parts_are)

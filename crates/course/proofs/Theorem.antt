@@ -15,14 +15,14 @@ use Rattle.chance.specs.Tree.{Tree, Meets, Fair}
 use Rattle.chance.specs.Tree.Tree.{done, call, draw}
 use Rattle.chance.proofs.Counts.{counted_le, length_places}
 use Rattle.chance.proofs.Games.{event_bounded}
-use Rattle.betting.specs.Accounts.{Account, opened}
+use Rattle.betting.specs.Accounts.{Account, fresh_account}
 use Rattle.betting.proofs.Pencil.{risk_pencil}
 use Rattle.verdict.specs.declared.Finding.TheVariants.{Confirm, Continue, FullHandCount}
-use Rattle.course.specs.Terms.{Terms, Shown, blank_card}
+use Rattle.course.specs.Terms.{Terms, Reading, blank_card}
 use Rattle.course.specs.Course.{Rules, State, Call, Answer, after_count, after_entry, all_above, all_settled, answered, course, first_of, no_draws_left, parts, refusal_of, risks, shown_value, step, worst_risk}
 use Rattle.course.specs.Course.Call.{entry, verdict, escalation, hand_count, closing}
 use Rattle.course.specs.Course.Answer.{taken}
-use Rattle.course.specs.Scripts.{Ballot, Move, Hand, calls, draws_in, hand_call, hand_calls, show_card, show_drawn, show_missing}
+use Rattle.course.specs.Scripts.{CastCards, Move, Hand, calls, draws_in, hand_call, hand_calls, show_card, show_drawn, show_missing}
 use Rattle.course.specs.Bounds.{Any, AtMostBring, accounts_of, Confirms, Contradicted, Fits, LimitsRisk, LowRisk, MeasuresRisk, Opened, WrongAnswer}
 use Rattle.course.specs.Laws.{NeverUpholdsWrongly, UpholdsTruly}
 use Rattle.course.proofs.Steps.{by_step, closed_all, counted_place, drawn_shown, misread_count, misread_entry, some_not_none, taken_step}
@@ -31,7 +31,7 @@ use Rattle.course.proofs.Fairness.{cards_sum, entry_assorter, entry_fair, entry_
 use Rattle.course.proofs.Parts.{InPart, part_above, part_any, part_worst, settled_at}
 use Rattle.course.proofs.Rules.{Lawful}
 
-module _ {A S : Type 0} (R : Rules A S) (t : Terms) (b : Ballot) where
+module _ {A S : Type 0} (R : Rules A S) (t : Terms) (b : CastCards) where
   abbrev After : Type 0
   After = State A S × Answer
 
@@ -48,7 +48,7 @@ module _ {A S : Type 0} (R : Rules A S) (t : Terms) (b : Ballot) where
   tree σ (Move.ask ∷ ms) hs = call (step R t σ verdict) (tree (step R t σ verdict).0 ms hs)
 
   -- a course along a draw sequence is a way through the tree; K is what every call keeps
-  module _ (K : State A S → Type 0) (keep-entry : (σ : State A S) (e : Shown) → K σ → K (step R t σ (entry e)).0) (keep-hand : (σ : State A S) (h : Hand t) → K σ → K (step R t σ (hand_call t b h)).0) (Q Q' : After → Type 0) (up : (σ : State A S) (c : Call) → K σ → K (step R t σ c).0 → Q (step R t σ c) → Q' (step R t σ c)) where
+  module _ (K : State A S → Type 0) (keep-entry : (σ : State A S) (e : Reading) → K σ → K (step R t σ (entry e)).0) (keep-hand : (σ : State A S) (h : Hand t) → K σ → K (step R t σ (hand_call t b h)).0) (Q Q' : After → Type 0) (up : (σ : State A S) (c : Call) → K σ → K (step R t σ c).0 → Q (step R t σ c) → Q' (step R t σ c)) where
     chain_meets : (σ : State A S) (hs : List (Hand t)) (n : ℕ) (s : List ℕ) → K σ → Any Q (course R t σ (map (hand_call t b) hs)) → Meets Q' (chain σ (map (hand_call t b) hs) n) s
     chain_meets σ [] n s k m = m
     chain_meets σ (h ∷ hs) n s k m =
@@ -68,7 +68,7 @@ module _ {A S : Type 0} (R : Rules A S) (t : Terms) (b : Ballot) where
     tree_meets σ (Move.ask ∷ ms) hs s k m = ⊎_elim (λ q. inl (up σ verdict k k q)) (λ q. inr (tree_meets σ ms hs s k q)) m
 
   -- what every answer of a script has, where K is what every call keeps
-  module _ (K : State A S → Type 0) (keep-entry : (σ : State A S) (e : Shown) → K σ → K (step R t σ (entry e)).0) (keep-hand : (σ : State A S) (h : Hand t) → K σ → K (step R t σ (hand_call t b h)).0) (Q : After → Type 0) (up : (σ : State A S) (c : Call) → K σ → Q (step R t σ c)) where
+  module _ (K : State A S → Type 0) (keep-entry : (σ : State A S) (e : Reading) → K σ → K (step R t σ (entry e)).0) (keep-hand : (σ : State A S) (h : Hand t) → K σ → K (step R t σ (hand_call t b h)).0) (Q : After → Type 0) (up : (σ : State A S) (c : Call) → K σ → Q (step R t σ c)) where
     hands_all : (σ : State A S) (hs : List (Hand t)) → K σ → AllByRecursion Q (course R t σ (map (hand_call t b) hs))
     hands_all σ [] k = tt
     hands_all σ (h ∷ hs) k = (up σ (hand_call t b h) k, hands_all (step R t σ (hand_call t b h)).0 hs (keep-hand σ h k))
@@ -98,7 +98,7 @@ module _ {A S : Type 0} (R : Rules A S) (t : Terms) (b : Ballot) where
       few : σ.counted ≤ t.cards
       little : (at σ).tally ≤ sum_by (R.value a) (take σ.counted b.cards)
 
-    entered_kept : (σ : State A S) (e : Shown) → Kept σ → Kept (answered R t σ (entry e)).0
+    entered_kept : (σ : State A S) (e : Reading) → Kept σ → Kept (answered R t σ (entry e)).0
     entered_kept σ e k =
         let is : get_or (map (after_entry R t.limit e) σ.accounts) j x₀ ≡ after_entry R t.limit e (at σ) = get_or-map (after_entry R t.limit e) σ.accounts j x₀ x₀ k.inside in
         record {
@@ -109,10 +109,10 @@ module _ {A S : Type 0} (R : Rules A S) (t : Terms) (b : Ballot) where
           little = subst (λ (x : Account A S). x.tally ≤ sum_by (R.value a) (take σ.counted b.cards)) (sym is) (subst (λ n. n ≤ sum_by (R.value a) (take σ.counted b.cards)) (sym (entry_tally R t.limit e (at σ))) k.little);
         }
 
-    entry_kept : (σ : State A S) (e : Shown) → Kept σ → Kept (step R t σ (entry e)).0
+    entry_kept : (σ : State A S) (e : Reading) → Kept σ → Kept (step R t σ (entry e)).0
     entry_kept σ e k = by_step R t (λ x. Kept x.0) σ (entry e) (λ _. entered_kept σ e k) (λ r. k)
 
-    count_kept : (σ : State A S) (e : Shown) → Kept σ → (refusal_of t σ (hand_count e) ≡ None → shown_value R a e ≤ R.value a (get_or b.cards (e.place - 1) blank_card)) → Kept (step R t σ (hand_count e)).0
+    count_kept : (σ : State A S) (e : Reading) → Kept σ → (refusal_of t σ (hand_count e) ≡ None → shown_value R a e ≤ R.value a (get_or b.cards (e.place - 1) blank_card)) → Kept (step R t σ (hand_count e)).0
     count_kept σ e k honest = by_step R t (λ x. Kept x.0) σ (hand_count e) yes_case (λ r. k)
       where
         yes_case : refusal_of t σ (hand_count e) ≡ None → Kept (answered R t σ (hand_count e)).0
@@ -143,7 +143,7 @@ module _ {A S : Type 0} (R : Rules A S) (t : Terms) (b : Ballot) where
     abbrev peak : After → ℕ
     peak x = (at x.0).peak
 
-    entered_at : (σ : State A S) (e : Shown) → Kept σ → at (answered R t σ (entry e)).0 ≡ after_entry R t.limit e (at σ)
+    entered_at : (σ : State A S) (e : Reading) → Kept σ → at (answered R t σ (entry e)).0 ≡ after_entry R t.limit e (at σ)
     entered_at σ e k = get_or-map (after_entry R t.limit e) σ.accounts j x₀ x₀ k.inside
 
     drawn_fair : (σ : State A S) → Kept σ → sum_by (λ i. wealth (step R t σ (entry (show_drawn b i)))) (places t.cards) ≤ t.cards * (at σ).wealth
@@ -159,10 +159,10 @@ module _ {A S : Type 0} (R : Rules A S) (t : Terms) (b : Ballot) where
             (sum_places_le _ (λ i. (after_entry R t.limit (show_drawn b i) (at σ)).wealth) t.cards (λ i lo hi. let r : refusal_of t σ (entry (show_drawn b i)) ≡ None = drawn_refusal fits σ i lo hi ∙ ap (λ (v : Bool). cond v (Some NoDrawsLeft) None) e in le_of_eq (ap wealth (taken_step R t σ (entry (show_drawn b i)) r) ∙ ap (λ (x : Account A S). x.wealth) (entered_at σ (show_drawn b i) k))))
             (entry_fair R law t b fits a untrue t.limit (at σ) k.same)
 
-    entry_peak : (σ : State A S) (e : Shown) → Kept σ → peak (step R t σ (entry e)) ≤ max (at σ).peak (wealth (step R t σ (entry e)))
+    entry_peak : (σ : State A S) (e : Reading) → Kept σ → peak (step R t σ (entry e)) ≤ max (at σ).peak (wealth (step R t σ (entry e)))
     entry_peak σ e k = by_step R t (λ x. peak x ≤ max (at σ).peak (wealth x)) σ (entry e) (λ _. subst (λ (x : Account A S). x.peak ≤ max (at σ).peak x.wealth) (sym (entered_at σ e k)) (entry_highest R t.limit e (at σ))) (λ r. le-max_left (at σ).peak (at σ).wealth)
 
-    count_same : (σ : State A S) (e : Shown) → Kept σ → (wealth (step R t σ (hand_count e)) ≡ (at σ).wealth) × (peak (step R t σ (hand_count e)) ≡ (at σ).peak)
+    count_same : (σ : State A S) (e : Reading) → Kept σ → (wealth (step R t σ (hand_count e)) ≡ (at σ).wealth) × (peak (step R t σ (hand_count e)) ≡ (at σ).peak)
     count_same σ e k =
         let is : get_or (map (after_count R e) σ.accounts) j x₀ ≡ after_count R e (at σ) = get_or-map (after_count R e) σ.accounts j x₀ x₀ k.inside in
         by_step R t (λ x. (wealth x ≡ (at σ).wealth) × (peak x ≡ (at σ).peak)) σ (hand_count e) (λ _. (ap (λ (x : Account A S). x.wealth) is, ap (λ (x : Account A S). x.peak) is)) (λ r. (refl, refl))
@@ -228,7 +228,7 @@ first_in : {X : Type 0} (xs : List X) (n : ℕ) → n < length xs → X
 first_in [] n h = absurd (omega arith)
 first_in (x ∷ xs) n h = x
 
-module _ {A S : Type 0} (R : Rules A S) (t : Terms) (law : Lawful R) (σ : State A S) (o : Opened σ) (b : Ballot) (fits : Fits t b) where
+module _ {A S : Type 0} (R : Rules A S) (t : Terms) (law : Lawful R) (σ : State A S) (o : Opened σ) (b : CastCards) (fits : Fits t b) where
   -- a false claim of contest k, with the index of its account
   record False (k : ℕ) : Type 0 where
     j : ℕ
@@ -244,8 +244,8 @@ module _ {A S : Type 0} (R : Rules A S) (t : Terms) (law : Lawful R) (σ : State
       record { j = r.0; part = r.1; inside = r.2; first = x₀; untrue = r.3 x₀ }
 
   -- an account just opened
-  fresh_at : (k : ℕ) (f : False k) → get_or σ.accounts f.j f.first ≡ opened (get_or σ.accounts f.j f.first).assorter (get_or σ.accounts f.j f.first).state
-  fresh_at k f = All-get_or (λ x. x ≡ opened x.assorter x.state) σ.accounts f.j f.first f.inside o.fresh
+  fresh_at : (k : ℕ) (f : False k) → get_or σ.accounts f.j f.first ≡ fresh_account (get_or σ.accounts f.j f.first).assorter (get_or σ.accounts f.j f.first).state
+  fresh_at k f = All-get_or (λ x. x ≡ fresh_account x.assorter x.state) σ.accounts f.j f.first f.inside o.fresh
 
   abbrev Keeps : (k : ℕ) → False k → State A S → Type 0
   Keeps k f τ = Kept R t b law fits (get_or σ.accounts f.j f.first).assorter f.untrue f.j f.first τ
@@ -266,7 +266,7 @@ module _ {A S : Type 0} (R : Rules A S) (t : Terms) (law : Lawful R) (σ : State
       let g = fresh_at k f in
       bounded R t b law fits (get_or σ.accounts f.j f.first).assorter f.untrue f.j f.first σ ms hs p E (start k f) (ap (λ (x : Account A S). x.wealth) g) (ap (λ (x : Account A S). x.peak) g) to
 
-  keeps_entry : (k : ℕ) (f : False k) (τ : State A S) (e : Shown) → Keeps k f τ → Keeps k f (step R t τ (entry e)).0
+  keeps_entry : (k : ℕ) (f : False k) (τ : State A S) (e : Reading) → Keeps k f τ → Keeps k f (step R t τ (entry e)).0
   keeps_entry k f = entry_kept R t b law fits _ f.untrue f.j f.first
 
   keeps_hand : (k : ℕ) (f : False k) (τ : State A S) (h : Hand t) → Keeps k f τ → Keeps k f (step R t τ (hand_call t b h)).0

@@ -9,7 +9,7 @@ use Rattle.betting.specs.Sums.{risk_of, settled}
 use Rattle.betting.specs.declared.policy.Policy.{Ghosts as Betting}
 use Rattle.verdict.specs.declared.Finding.{Finding}
 use Rattle.verdict.specs.declared.Finding.TheVariants.{Confirm, Continue, FullHandCount}
-use Rattle.course.specs.Terms.{Terms, Shown, shown_refusal}
+use Rattle.course.specs.Terms.{Terms, Reading, shown_refusal}
 
 -- What assorters and policies mean.
 pub record Rules (A S : Type 0) : Type 1 where
@@ -30,10 +30,10 @@ pub record State (A S : Type 0) : Type 0 where
   pub counted : ℕ
 
 pub data Call : Type 0 where
-  entry : Shown → Call
+  entry : Reading → Call
   verdict : Call
   escalation : Call
-  hand_count : Shown → Call
+  hand_count : Reading → Call
   closing : Call
 
 -- A finding comes with the draw count and each contest's risk, a closing with whether each contest is upheld.
@@ -89,13 +89,13 @@ module _ {A S : Type 0} where
 
   module _ (R : Rules A S) where
     -- A missing card has the value 0.
-    abbrev pub shown_value : A → Shown → ℕ
+    abbrev pub shown_value : A → Reading → ℕ
     shown_value a e = if e.found == 0 then 0 else R.value a e.card
 
-    abbrev pub after_entry : ℕ → Shown → Account A S → Account A S
+    abbrev pub after_entry : ℕ → Reading → Account A S → Account A S
     after_entry limit e x = played R.bet R.told (R.half x.assorter) (shown_value x.assorter e) limit x
 
-    abbrev pub after_count : Shown → Account A S → Account A S
+    abbrev pub after_count : Reading → Account A S → Account A S
     after_count e x = tallied (shown_value x.assorter e) x
 
     -- Each assertion's tally is above a half for each of the N cards.

@@ -9,12 +9,12 @@ use Rattle.assertion.specs.Assertions.{Claim, Plan, planned_of}
 use Rattle.assertion.specs.Values.{half_at}
 use Rattle.assorter.specs.Values.{Holds, worth}
 use Rattle.chance.specs.Sequences.{sequences, Counted}
-use Rattle.betting.specs.Accounts.{opened}
+use Rattle.betting.specs.Accounts.{fresh_account}
 use Rattle.course.specs.Terms.{Terms}
 use Rattle.course.specs.Course.{Rules, State, Answer, risks, step}
 use Rattle.course.specs.Course.Call.{entry, escalation, closing}
 use Rattle.course.specs.Course.Answer.{taken, upheld}
-use Rattle.course.specs.Scripts.{Ballot, Move, calls, show_missing}
+use Rattle.course.specs.Scripts.{CastCards, Move, calls, show_missing}
 use Rattle.course.specs.Bounds.{Brings, Contradicted, Fits, LowRisk, Opened, WrongAnswer}
 use Rattle.course.specs.Laws.{BeforeEscalation, counts_to, left_by}
 
@@ -33,16 +33,16 @@ abbrev pub plans : ℕ → ℕ → List Plan
 plans v w = planned_of 0 one_seat (reported v w)
 
 abbrev pub just_opened : List Plan → State Claim ℕ
-just_opened ps = record { accounts = map (λ plan. opened plan.claim plan.bet) ps; drawn = 0; counted = 0 }
+just_opened ps = record { accounts = map (λ plan. fresh_account plan.claim plan.bet) ps; drawn = 0; counted = 0 }
 
 abbrev pub for_candidate : ℕ → Card
 for_candidate i = record { marks = 2 ^ i ∷ replicate 7 0 }
 
-abbrev pub both_found : Ballot
+abbrev pub both_found : CastCards
 both_found = record { cards = for_candidate 0 ∷ for_candidate 1 ∷ []; missing = λ i. false }
 
 -- Both cards are for the first candidate.
-abbrev pub all_first : (ℕ → Bool) → Ballot
+abbrev pub all_first : (ℕ → Bool) → CastCards
 all_first missing = record { cards = for_candidate 0 ∷ for_candidate 0 ∷ []; missing = missing }
 
 -- Two cards, one for each candidate, and both votes reported for the first. The risk limit is above all that an audit can
@@ -70,7 +70,7 @@ Misled =
     (WrongAnswer fixed_rules two_cards both_for_first both_found)
 
 -- What the closing answers after a hand count of both places.
-abbrev pub closed : Ballot → Answer
+abbrev pub closed : CastCards → Answer
 closed b = (step fixed_rules two_cards (left_by fixed_rules two_cards both_for_first (escalation ∷ counts_to b 2)) closing).1
 
 -- The bet is 950 and the reported winner didn't win. So many of the two draws bring the risk that low, none brings it

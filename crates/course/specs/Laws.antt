@@ -10,7 +10,7 @@ use Rattle.course.specs.Terms.{Terms}
 use Rattle.course.specs.Course.{Rules, State, Call, Answer, course, step}
 use Rattle.course.specs.Course.Call.{entry, verdict, escalation, hand_count, closing}
 use Rattle.course.specs.Course.Answer.{refused, taken, finding, upheld}
-use Rattle.course.specs.Scripts.{Ballot, Move, Hand, calls, show_drawn}
+use Rattle.course.specs.Scripts.{CastCards, Move, Hand, calls, show_drawn}
 use Rattle.course.specs.Bounds.{Fits, Opened, accounts_of}
 
 -- 1 for an entry that was taken.
@@ -36,7 +36,7 @@ BeforeEscalation (hand_count e) = ⊥
 BeforeEscalation closing = ⊥
 
 -- The counts of the places 1 to n in their order, each card found or missing.
-abbrev pub counts_to : Ballot → ℕ → List Call
+abbrev pub counts_to : CastCards → ℕ → List Call
 counts_to b zero = []
 counts_to b (suc n) = counts_to b n ++ (hand_count (show_drawn b (suc n)) ∷ [])
 
@@ -63,11 +63,11 @@ module _ {A S : Type 0} (R : Rules A S) (t : Terms) where
   Finds σ cs f d rs = (step R t (left_by σ cs) verdict).1 ≡ finding f d rs
 
   -- All claims of contest k hold of the cards.
-  abbrev pub ClaimsHold : State A S → Ballot → ℕ → Type 0
+  abbrev pub ClaimsHold : State A S → CastCards → ℕ → Type 0
   ClaimsHold σ b k = AllByRecursion (λ x. R.claim x.assorter b.cards) (accounts_of R t σ k)
 
   -- The call upholds only contests whose claims hold.
-  abbrev pub UpholdsTruly : State A S → Ballot → State A S × Answer → Type 0
+  abbrev pub UpholdsTruly : State A S → CastCards → State A S × Answer → Type 0
   UpholdsTruly σ b x = elim x.1 [
     | refused r ↦ Unit {0}
     | taken ↦ Unit {0}
@@ -76,12 +76,12 @@ module _ {A S : Type 0} (R : Rules A S) (t : Terms) where
   ]
 
   -- What the closing answers after these calls, the escalation and the counts of all places.
-  abbrev pub closing_answer : State A S → List Call → Ballot → Answer
+  abbrev pub closing_answer : State A S → List Call → CastCards → Answer
   closing_answer σ before b = (step R t (left_by σ (before ++ (escalation ∷ counts_to b t.cards))) closing).1
 
   -- The closing after all places were counted upholds a contest only if its claims hold, and, where no card is missing,
   -- just then.
-  pub record ClosesRightly (σ : State A S) (before : List Call) (b : Ballot) : Type 0 where
+  pub record ClosesRightly (σ : State A S) (before : List Call) (b : CastCards) : Type 0 where
     pub outcomes : List Bool
     pub answer : closing_answer σ before b ≡ upheld outcomes
     pub only_if : (k : ℕ) → k < length t.assertions → slice_index_or outcomes k false ≡ true → ClaimsHold σ b k
@@ -114,11 +114,11 @@ module _ {A S : Type 0} (R : Rules A S) where
   abbrev pub CountsDecide : Type 0
   CountsDecide =
       (t : Terms) (σ : State A S) → Opened σ → t.cards ≤ 65535 →
-      (before : List Call) → AllByRecursion BeforeEscalation before → (b : Ballot) → Fits t b → ClosesRightly R t σ before b
+      (before : List Call) → AllByRecursion BeforeEscalation before → (b : CastCards) → Fits t b → ClosesRightly R t σ before b
 
   -- No script upholds a contest of which a claim is false.
   abbrev pub NeverUpholdsWrongly : Type 0
   NeverUpholdsWrongly =
-      (t : Terms) (σ : State A S) → Opened σ → (b : Ballot) → Fits t b →
+      (t : Terms) (σ : State A S) → Opened σ → (b : CastCards) → Fits t b →
       (ms : List (Move t)) (hs : Option (List (Hand t))) (s : List ℕ) →
       AllByRecursion (UpholdsTruly R t σ b) (course R t σ (calls t b ms hs s))

@@ -15,7 +15,7 @@ use Rattle.betting.specs.Policies.{Chosen, chosen_bet, chosen_told}
 use Rattle.course.specs.Terms.{Terms}
 use Rattle.course.specs.Course.{Rules, State, Call}
 use Rattle.course.specs.Course.Answer.{upheld}
-use Rattle.course.specs.Scripts.{Ballot}
+use Rattle.course.specs.Scripts.{CastCards}
 use Rattle.course.specs.Bounds.{AtMostBring, Contradicted, Fits, WrongAnswer}
 use Rattle.course.specs.Laws.{BeforeEscalation, closing_answer}
 
@@ -37,19 +37,19 @@ module _ (xs : List Contest) (cs : List Candidate) (t : Terms) (σ : State Asser
   -- The cards contradict a contest just when its reported winners did not truly win.
   abbrev pub ContradictedWhenLost : Type 0
   ContradictedWhenLost =
-      (b : Ballot) (k : ℕ) →
+      (b : CastCards) (k : ℕ) →
       JustWhen (Contradicted own_rules t σ b k) (Won k xs cs b.cards → ⊥)
 
   -- Where the reported winners of some contest did not truly win, at most the risk limit's share of all draw sequences
   -- confirm, or uphold such a contest.
   abbrev pub LimitsWrongBoards : Type 0
   LimitsWrongBoards =
-      (b : Ballot) → Fits t b → (k : ℕ) → (Won k xs cs b.cards → ⊥) →
+      (b : CastCards) → Fits t b → (k : ℕ) → (Won k xs cs b.cards → ⊥) →
       AtMostBring own_rules t σ b t.limit 1000 (WrongAnswer own_rules t σ b)
 
   -- Once each place was counted, with its card as it is or missing, the closing is answered. It upholds a contest only if
   -- its reported winners truly won, and, where no card is missing, exactly then.
-  pub record ClosesByTheVotes (before : List Call) (b : Ballot) : Type 0 where
+  pub record ClosesByTheVotes (before : List Call) (b : CastCards) : Type 0 where
     pub outcomes : List Bool
     pub answer : closing_answer own_rules t σ before b ≡ upheld outcomes
     pub only_if_won :
@@ -62,4 +62,4 @@ module _ (xs : List Contest) (cs : List Candidate) (t : Terms) (σ : State Asser
   -- with cards missing only then, whatever was entered before it.
   abbrev pub HandCountDecides : Type 0
   HandCountDecides =
-      (before : List Call) → AllByRecursion BeforeEscalation before → (b : Ballot) → Fits t b → ClosesByTheVotes before b
+      (before : List Call) → AllByRecursion BeforeEscalation before → (b : CastCards) → Fits t b → ClosesByTheVotes before b

@@ -1,7 +1,7 @@
 -- What is promised of an audit, whatever its assorters and policies.
 use Rattle.course.specs.Terms.{Terms}
 use Rattle.course.specs.Course.{Rules, State}
-use Rattle.course.specs.Scripts.{Ballot}
+use Rattle.course.specs.Scripts.{CastCards}
 use Rattle.course.specs.Bounds.{HasCounts, Opened, RiskLimited, RiskMeasured}
 use Rattle.course.specs.Laws.{ConfirmsByRisk, CountsDecide, CountsDraws, NeverUpholdsWrongly, SettledStays}
 
@@ -10,7 +10,7 @@ use Rattle.course.specs.Laws.{ConfirmsByRisk, CountsDecide, CountsDraws, NeverUp
 pub record Promised {A S : Type 0} (R : Rules A S) (t : Terms) (σ : State A S) : Type 0 where
   pub risk_measured : Opened σ → RiskMeasured R t σ
   pub risk_limited : Opened σ → RiskLimited R t σ
-  pub counts_exist : (b : Ballot) → HasCounts R t σ b
+  pub counts_exist : (b : CastCards) → HasCounts R t σ b
   pub confirms_by_risk : ConfirmsByRisk R
   pub counts_draws : CountsDraws R
   pub settled_stays : SettledStays R

@@ -4,13 +4,12 @@
 
 ghost use Rattle.std.specs.Prelude.{◌≡◌, ◌≤◌, IfSome, IfOk, vec_len};
 ghost use Rattle.std.specs.Result.{result_ok};
-ghost use Rattle.setup.specs.Reading.{held_lists, reading, SameMemory};
+ghost use Rattle.setup.specs.Steps.{held_lists, read_by_steps, SameMemory};
 
-pub mod memory;
+mod memory;
 
-use setup::lists::Lists;
-use setup::read::read_setup;
-use setup::setup::Setup;
+pub use memory::{CANDIDATES, Memory};
+use setup::{Lists, Setup, read_setup};
 use std::fs::File;
 use std::io;
 use std::io::{ErrorKind, Read};
@@ -59,8 +58,8 @@ pub fn setup_or_tell(
     file: &[u8],
     lists: &mut Lists<'_>,
 ) -> io::Result<Option<Setup>>
-    ensures answer { IfOk result (λ o. o ≡ result_ok (reading (held_lists lists.old) file.now).answer) }
-    ensures holds { held_lists lists.new ≡ (reading (held_lists lists.old) file.now).lists }
+    ensures answer { IfOk result (λ o. o ≡ result_ok (read_by_steps (held_lists lists.old) file.now).answer) }
+    ensures holds { held_lists lists.new ≡ (read_by_steps (held_lists lists.old) file.now).lists }
     ensures memory { SameMemory lists.old lists.new }
 {
     match read_setup(file, lists) {

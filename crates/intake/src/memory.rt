@@ -1,14 +1,13 @@
 //! Memory for whatever a setup within the limits describes.
 ghost use Rattle.std.specs.Prelude.{◌≡◌, []};
 ghost use Rattle.bounded.specs.Lists.{held};
-ghost use Rattle.setup.specs.Reading.{held_lists};
+ghost use Rattle.setup.specs.Steps.{held_lists};
 ghost use Rattle.intake.specs.Memories.{Blank, empty_lists};
 
 use assertion::Planned;
-use ballot::limits::{ASSERTIONS, BATCHES, CONTESTS};
-use ballot::{Batch, Candidate, Contest, Kind};
+use ballot::{ASSERTIONS, BATCHES, Batch, CONTESTS, Candidate, Contest, Kind};
 use bounded::List;
-use setup::lists::Lists;
+use setup::Lists;
 
 /// The most candidates: each contest has at most 32.
 pub const CANDIDATES: usize = 256;

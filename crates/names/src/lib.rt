@@ -5,7 +5,7 @@ ghost use Rattle.std.specs.Prelude.{◌≡◌, Some};
 ghost use Rattle.names.specs.Shown.{CutsBlanks, kind_line, many_line, name_line, policy_line, sign_of, without_blanks};
 
 use ballot::Kind;
-use setup::setup::PolicyChoice;
+use setup::PolicyChoice;
 use std::fmt;
 
 /// What fills a name up to its eight bytes.

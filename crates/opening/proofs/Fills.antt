@@ -4,7 +4,7 @@ use Rattle.std.specs.List.{AllZip, range_with_len}
 use Rattle.std.proofs.lemmas.List.{get_or-map, get_or-take, map-id, take_more_set}
 use Rattle.std.proofs.lemmas.List.FromFn.{map-range_with_len_more}
 use Rattle.std.proofs.lemmas.Slice.Zip.{all_zipped_more}
-use Rattle.betting.specs.Accounts.{opened}
+use Rattle.betting.specs.Accounts.{fresh_account}
 use Rattle.opening.specs.Starts.{started}
 
 -- Q holds of an index and the element that is made of it
@@ -58,7 +58,7 @@ module _ {A P S : Type 0} (st : P → S) where
 
   stands :
       (xs : List A) (ps : List P) (i : ℕ) (a : A) (p : P) (y : _) → i < length xs → i < length ps → a ≡ get_or xs i a →
-      p ≡ get_or ps i p → y ≡ opened a (st p) → y ≡ get_or (started xs (map st ps)) i y
+      p ≡ get_or ps i p → y ≡ fresh_account a (st p) → y ≡ get_or (started xs (map st ps)) i y
   stands [] ps i a p y in-xs in-ps at_a at_p reads = absurd (not-suc-le-zero in-xs)
   stands (x ∷ xs) [] i a p y in-xs in-ps at_a at_p reads = absurd (not-suc-le-zero in-ps)
   stands (x ∷ xs) (q ∷ ps) zero a p y in-xs in-ps at_a at_p reads = cc
@@ -68,6 +68,6 @@ module _ {A P S : Type 0} (st : P → S) where
   -- a and p are what stands at i
   pub at_started :
       (xs : List A) (ps : List P) (n i : ℕ) (a : A) (p : P) (y : _) → i < n → n ≤ length xs → n ≤ length ps → a ≡ get_or xs i a →
-      p ≡ get_or ps i p → y ≡ opened a (st p) → y ≡ get_or (take n (started xs (map st ps))) i y
+      p ≡ get_or ps i p → y ≡ fresh_account a (st p) → y ≡ get_or (take n (started xs (map st ps))) i y
   at_started xs ps n i a p y in-n in-xs in-ps at_a at_p reads =
       stands xs ps i a p y (omega arith) (omega arith) at_a at_p reads ∙ sym (get_or-take n (started xs (map st ps)) i y in-n)

@@ -5,9 +5,9 @@ use Rattle.refusal.specs.declared.Refusal.TheVariants.{NoRoom}
 use Rattle.assertion.specs.declared.assertions.Assertion.{Assertion}
 use Rattle.assertion.specs.declared.assertions.Planned.{Planned}
 use Rattle.assertion.specs.Values.{half_of, top_of}
-use Rattle.betting.specs.Accounts.{Account, opened}
+use Rattle.betting.specs.Accounts.{Account, fresh_account}
 use Rattle.betting.specs.Policies.{Chosen, always, shrinking}
-use Rattle.betting.specs.Shrinks.{Shrinks, begun}
+use Rattle.betting.specs.Shrinks.{Shrinks, shrinking_from}
 use Rattle.setup.specs.declared.setup.PolicyChoice.{PolicyChoice}
 use Rattle.setup.specs.declared.setup.PolicyChoice.TheVariants.{Fixed, Shrinking}
 
@@ -20,17 +20,17 @@ shrinking_or bet None = always bet
 abbrev pub first_state : PolicyChoice → Planned → Chosen
 first_state Fixed x = always x.first_bet
 first_state (Shrinking weight) x =
-    shrinking_or x.first_bet (begun x.first_bet weight (half_of x.assertion) (top_of x.assertion))
+    shrinking_or x.first_bet (shrinking_from x.first_bet weight (half_of x.assertion) (top_of x.assertion))
 
 -- The account of a planned assertion, of which no card has been seen.
 abbrev pub started_plan : PolicyChoice → Planned → Account Assertion Chosen
-started_plan choice x = opened x.assertion (first_state choice x)
+started_plan choice x = fresh_account x.assertion (first_state choice x)
 
 -- One account for each assorter and the policy beside it.
 abbrev pub started : {A S : Type 0} → List A → List S → List (Account A S)
 started [] ss = []
 started (a ∷ xs) [] = []
-started (a ∷ xs) (s ∷ ss) = opened a s ∷ started xs ss
+started (a ∷ xs) (s ∷ ss) = fresh_account a s ∷ started xs ss
 
 -- There are fewer than n.
 abbrev pub fewer : {X : Type 0} → ℕ → List X → Bool

@@ -13,7 +13,7 @@ mod tests {
     use assertion::{Assertion, Pair, Planned, Share};
     use betting::{ChosenPolicy, Fixed, Policy, Record};
     use refusal::Refusal;
-    use setup::setup::PolicyChoice;
+    use setup::PolicyChoice;
     use std::test::Fail;
 
     fn plans() -> [Planned; 2] {

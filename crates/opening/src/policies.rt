@@ -4,7 +4,7 @@ ghost use Rattle.opening.specs.Starts.{first_state};
 
 use assertion::Planned;
 use betting::{ChosenPolicy, Fixed, Shrinking};
-use setup::setup::PolicyChoice;
+use setup::PolicyChoice;
 
 /// The policy of a planned assertion before the first card; where no shrinking policy begins, which
 /// happens in no accepted setup, the bet stays the first.

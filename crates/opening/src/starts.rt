@@ -8,7 +8,7 @@ use super::policies::first_policy;
 use assertion::{Assertion, Planned};
 use betting::{ChosenPolicy, Policy, Record};
 use refusal::Refusal;
-use setup::setup::PolicyChoice;
+use setup::PolicyChoice;
 
 /// Starts each record by its index.
 #[tactic(auto, using(crate::proofs::Fills::made_more))]

@@ -17,5 +17,5 @@ name_of Blank = codes "blank"
 name_of Missing = codes "missing"
 
 -- r is the outcome with the name word, and an error where no outcome has it.
-abbrev pub Named : List ℕ → Result Outcome NoOutcome → Type 0
-Named word r = MatchResult r (λ o. word ≡ name_of o) (λ _. (o : Outcome) → word ≡ name_of o → ⊥)
+abbrev pub NamesOutcome : List ℕ → Result Outcome NoOutcome → Type 0
+NamesOutcome word r = MatchResult r (λ o. word ≡ name_of o) (λ _. (o : Outcome) → word ≡ name_of o → ⊥)

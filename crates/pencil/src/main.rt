@@ -9,10 +9,8 @@ mod steps;
 
 use assertion::{Planned, list_assertions};
 use bounded::List;
-use intake::memory::Memory;
-use intake::{read_or_tell, setup_or_tell};
-use setup::lists::Lists;
-use setup::setup::Terms;
+use intake::{Memory, read_or_tell, setup_or_tell};
+use setup::{Lists, Terms};
 use std::io;
 
 /// The assertion that the line begins with, and its outcomes.

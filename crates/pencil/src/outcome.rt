@@ -1,6 +1,6 @@
 //! What a card can be to an assertion.
 ghost use Rattle.std.specs.Prelude.{◌≡◌};
-ghost use Rattle.pencil.specs.Outcomes.{Named, outcome_value};
+ghost use Rattle.pencil.specs.Outcomes.{NamesOutcome, outcome_value};
 
 use std::str::FromStr;
 
@@ -24,7 +24,7 @@ pub struct NoOutcome;
 impl FromStr for Outcome {
     type Err = NoOutcome;
 
-    ghost from_str_gives = { Named };
+    ghost from_str_gives = { NamesOutcome };
 
     fn from_str(word: &str) -> Result<Outcome, NoOutcome> {
         match word {

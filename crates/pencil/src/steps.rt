@@ -3,7 +3,7 @@ use crate::outcome::{Outcome, value_of};
 use assertion::{Assertion, Planned};
 use betting::{ChosenPolicy, Policy, Record, play, stake};
 use opening::first_policy;
-use setup::setup::Terms;
+use setup::Terms;
 use std::io;
 
 /// Plays one outcome, and prints what it did.

@@ -3,8 +3,7 @@
 
 mod outline;
 
-use intake::memory::Memory;
-use intake::{read_or_tell, setup_or_tell};
+use intake::{Memory, read_or_tell, setup_or_tell};
 use std::io;
 
 /// Reads the bytes as a setup, and prints its plan or its fault.

@@ -3,8 +3,7 @@ use assertion::{Assertion, Pair, Planned, Share, list_assertions};
 use ballot::{Batch, Candidate, Contest, all_votes};
 use bounded::List;
 use names::{KindName, Many, Name, PolicyName};
-use setup::lists::Lists;
-use setup::setup::Setup;
+use setup::{Lists, Setup};
 use std::io;
 
 /// The manifest, with the places of the cards of each batch, and the terms.

@@ -10,7 +10,7 @@ use Rattle.ballot.specs.declared.Card.{Card}
 use Rattle.format.specs.declared.command.Phase.{Phase}
 use Rattle.format.specs.declared.command.Phase.TheVariants as at
 use Rattle.format.specs.Format.{Cmd, entry, verdict, escalate, count, close, allowed, code, next}
-use Rattle.format.specs.Counted.{begun}
+use Rattle.format.specs.Counted.{commands_begun}
 use Rattle.setup.specs.Described.{WrittenBefore}
 use Rattle.course.specs.Terms.{Terms}
 use Rattle.course.specs.Course.{Rules, State, Call, course, step}
@@ -20,7 +20,7 @@ use Rattle.calls.specs.declared.drawing.Audit.{Audit}
 use Rattle.calls.specs.declared.answers.Answer.{Answer}
 use Rattle.calls.specs.declared.answers.Standing.{Standing}
 use Rattle.calls.specs.declared.answers.Standing.TheVariants.{Drawing, Counting}
-use Rattle.calls.specs.Calls.{code_answer, shown}
+use Rattle.calls.specs.Calls.{code_answer, reading}
 
 -- ---- commands and calls
 
@@ -36,10 +36,10 @@ card_of bs =
 
 -- What a command asks of an audit; a command of the setup file asks nothing.
 abbrev pub call_of : Cmd → Option Call
-call_of (entry place found marks) = Some (Call.entry (shown place found (card_of marks)))
+call_of (entry place found marks) = Some (Call.entry (reading place found (card_of marks)))
 call_of verdict = Some Call.verdict
 call_of escalate = Some Call.escalation
-call_of (count place found marks) = Some (Call.hand_count (shown place found (card_of marks)))
+call_of (count place found marks) = Some (Call.hand_count (reading place found (card_of marks)))
 call_of close = Some Call.closing
 call_of _ = None
 
@@ -110,7 +110,7 @@ module _ {A S : Type 0} (R : Rules A S) (t : Terms) where
 -- There is a record for each assertion, and a place for an answer to each command that begins in the file.
 pub record HasRoom (t : Terms) (records : ℕ) (file : List ℕ) (places : ℕ) : Type 0 where
   pub for_records : sum t.assertions ≤ records
-  pub for_answers : begun file ≤ places
+  pub for_answers : commands_begun file ≤ places
 
 -- Without room nothing is read and nothing changes.
 pub record Unread {X Y : Type 0}

@@ -4,7 +4,7 @@ ghost use Rattle.betting.specs.Accounts.{account};
 ghost use Rattle.calls.specs.Calls.{audit_state, standing_state, standing_terms, terms_of};
 ghost use Rattle.course.specs.Course.{rules_of};
 ghost use Rattle.course.specs.Promise.{Promised};
-ghost use Rattle.format.specs.Counted.{begun};
+ghost use Rattle.format.specs.Counted.{commands_begun};
 ghost use Rattle.replay.specs.Following.{stopped_at};
 ghost use Rattle.replay.specs.Replays.{HasRoom, Replays, Unread};
 
@@ -12,9 +12,7 @@ use crate::follow::{follow, phase_after};
 use assorter::Assorter;
 use betting::{Policy, Record};
 use calls::{Answer, Audit, Standing};
-use format::command::Phase;
-use format::count::commands_in;
-use format::take::next_command;
+use format::{Phase, commands_in, next_command};
 use refusal::{Fault, File, Refusal};
 
 /// What a draws file brought.
@@ -53,12 +51,12 @@ fn follow_commands<A: Assorter + Copy, P: Policy + Copy>(
     answers: &mut [Answer],
 ) -> Replayed
     requires room { audit.terms.needed ≤ length records.old }
-    requires places { begun file.now ≤ length answers.old }
+    requires places { commands_begun file.now ≤ length answers.old }
     ensures replays { Replays (rules_of A.Assorter P.Policy) (terms_of audit.terms) (audit_state audit (map (account P.state) records.old)) file.now (take result.answered answers.new) result.fault result.standing (standing_state result.standing (map (account P.state) records.new)) }
     ensures terms { standing_terms result.standing ≡ audit.terms }
     ensures records { drop audit.terms.needed records.new ≡ drop audit.terms.needed records.old }
     ensures answers { drop result.answered answers.new ≡ drop result.answered answers.old }
-    ensures within { result.answered ≤ begun file.now }
+    ensures within { result.answered ≤ commands_begun file.now }
 {
     let mut standing = Standing::Drawing(audit);
     let mut phase = Phase::Drawing;
@@ -105,7 +103,7 @@ pub fn replay<A: Assorter + Copy, P: Policy + Copy>(
     ensures unread { (HasRoom (terms_of audit.terms) (length records.old) file.now (length answers.old) → ⊥) → Unread audit result.answered result.fault result.standing records.old records.new answers.old answers.new }
     ensures terms { standing_terms result.standing ≡ audit.terms }
     ensures beyond { (drop audit.terms.needed records.new ≡ drop audit.terms.needed records.old) × (drop result.answered answers.new ≡ drop result.answered answers.old) }
-    ensures within { result.answered ≤ begun file.now }
+    ensures within { result.answered ≤ commands_begun file.now }
     ensures promise { Promised (rules_of A.Assorter P.Policy) (terms_of audit.terms) (audit_state audit (map (account P.state) records.old)) }
 {
     if records.len() < audit.records_needed() || answers.len() < commands_in(file) {

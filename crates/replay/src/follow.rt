@@ -9,11 +9,11 @@ ghost use Rattle.format.specs.Format.{allowed, code, meant};
 ghost use Rattle.replay.specs.Following.{Asked, draw_or_escalation, standing_phase, StandsAfter};
 ghost use Rattle.replay.specs.Replays.{call_of, phase_after};
 
-use crate::marks::shown;
+use crate::marks::reading;
 use assorter::Assorter;
 use betting::{Policy, Record};
 use calls::{Answer, CountCall, DrawCall, Stage, Standing};
-use format::command::{Command, Phase};
+use format::{Command, Phase};
 use refusal::Refusal;
 
 /// The phase after a command.
@@ -37,7 +37,7 @@ fn draw_call(command: Command<'_>) -> Option<DrawCall>
             place,
             found,
             marks,
-        } => Some(DrawCall::Entry(shown(place, found, marks))),
+        } => Some(DrawCall::Entry(reading(place, found, marks))),
         Command::Verdict => Some(DrawCall::Verdict),
         Command::Escalate => None,
         // No other command may stand in the drawing.
@@ -55,7 +55,7 @@ fn count_call(command: Command<'_>) -> CountCall
             place,
             found,
             marks,
-        } => CountCall::Count(shown(place, found, marks)),
+        } => CountCall::Count(reading(place, found, marks)),
         Command::Close => CountCall::Close,
         // No other command may stand in the hand count.
         _ => unreachable!(),

@@ -1,10 +1,10 @@
 //! What a draws file shows of a card.
 ghost use Rattle.std.specs.Prelude.{◌≡◌, ◌+◌, ◌≤◌};
-ghost use Rattle.calls.specs.Calls.{shown, shown_of};
+ghost use Rattle.calls.specs.Calls.{reading, reading_of};
 ghost use Rattle.replay.specs.Replays.{card_of, four};
 
 use ballot::Card;
-use calls::Shown;
+use calls::Reading;
 use std::array;
 
 /// Four bytes as a number, the most significant first.
@@ -28,9 +28,9 @@ fn card_from(marks: &[u8; 32]) -> Card
 
 /// What a command shows: a place, whether its card was found, and the card's marks.
 // The found byte goes on as the file has it: a call refuses what is neither 0 nor 1.
-pub(crate) fn shown(place: u16, found: u8, marks: &[u8; 32]) -> Shown
-    ensures { shown_of result ≡ shown place found (card_of marks.now) }
+pub(crate) fn reading(place: u16, found: u8, marks: &[u8; 32]) -> Reading
+    ensures { reading_of result ≡ reading place found (card_of marks.now) }
 {
     let card = card_from(marks);
-    Shown { place, found, card }
+    Reading { place, found, card }
 }

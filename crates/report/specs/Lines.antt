@@ -19,8 +19,8 @@ numbered item n [] = []
 numbered item n (x ∷ xs) = item n x ++ numbered item (n + 1) xs
 
 -- Every text that `made` allows for a number and an item is the item's line.
-abbrev pub Writes : {A : Type 0} → (ℕ → A → ArrayString → Type 0) → (ℕ → A → List ℕ) → Type 0
-Writes made item = (n : ℕ) (x : _) (text : ArrayString) → made n x text → text.bytes ≡ item n x
+abbrev pub WritesLine : {A : Type 0} → (ℕ → A → ArrayString → Type 0) → (ℕ → A → List ℕ) → Type 0
+WritesLine made item = (n : ℕ) (x : _) (text : ArrayString) → made n x text → text.bytes ≡ item n x
 
 -- "contest 1 risk 46"
 abbrev pub risk_line : ℕ → ℕ → List ℕ

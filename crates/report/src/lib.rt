@@ -3,7 +3,7 @@
 
 ghost use Rattle.std.specs.Prelude.{◌≡◌, ℕ, ◌+◌, ◌*◌, ◌≤◌, List, length, min};
 ghost use Rattle.arrayvec.specs.ArrayString.{array_string_len};
-ghost use Rattle.report.specs.Lines.{closing_lines, draws_line, finding_line, line_count, numbered, outcome_line, report_answer, reported, risk_line, verdict_lines, Writes};
+ghost use Rattle.report.specs.Lines.{closing_lines, draws_line, finding_line, line_count, numbered, outcome_line, report_answer, reported, risk_line, verdict_lines, WritesLine};
 ghost use Rattle.report.specs.Told.{ClosingLinesTell, VerdictLinesTell};
 
 use arrayvec::ArrayString;
@@ -72,7 +72,7 @@ fn outcome_line(contest: u8, upheld: bool) -> Line
 fn each_line<T: Copy, F: Fn(u8, T) -> Line>(items: &[T], line: F) -> Text
     requires callable { F.IsAlwaysCallable line }
     requires few { length items.now ≤ 8 }
-    ensures text { (item : ℕ → T → List ℕ) → Writes (F.post line) item → result.bytes ≡ numbered item 1 items.now }
+    ensures text { (item : ℕ → T → List ℕ) → WritesLine (F.post line) item → result.bytes ≡ numbered item 1 items.now }
     ensures room { array_string_len result ≤ 23 * length items.now }
 {
     let mut text = Text::new();

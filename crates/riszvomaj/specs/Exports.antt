@@ -3,7 +3,7 @@ use Rattle.std.specs.Prelude.{◌≡◌, ℕ, ◌^◌, ◌-◌, ◌⊎◌, List,
 use Rattle.refusal.specs.declared.Fault.{Fault}
 use Rattle.refusal.specs.Numbers.{number}
 use Rattle.setup.specs.declared.setup.Setup.{Setup}
-use Rattle.setup.specs.Reading.{reading}
+use Rattle.setup.specs.Steps.{read_by_steps}
 use Rattle.report.specs.Lines.{reported}
 use Rattle.intake.specs.declared.memory.Memory.{Memory}
 use Rattle.intake.specs.Memories.{Blank, empty_lists}
@@ -24,4 +24,4 @@ setup_judged before (Err f) = (number f.refusal, f.offset)
 
 abbrev pub JudgesSetup : List ℕ → ℕ → ℕ → ℕ → Type 0
 JudgesSetup setup before answer after =
-    (m : Memory) × Blank m × ((answer, after) ≡ setup_judged before (reading (empty_lists m) setup).answer)
+    (m : Memory) × Blank m × ((answer, after) ≡ setup_judged before (read_by_steps (empty_lists m) setup).answer)

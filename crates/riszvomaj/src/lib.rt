@@ -5,8 +5,8 @@ ghost use Rattle.std.specs.Prelude.{◌≡◌, length};
 ghost use Rattle.report.specs.Lines.{reported};
 ghost use Rattle.riszvomaj.specs.Exports.{JudgesSetup, Reports};
 
-use intake::memory::Memory;
-use setup::read::read_setup;
+use intake::Memory;
+use setup::read_setup;
 use std::alloc::Global;
 use transcript::transcribe;
 

@@ -9,7 +9,7 @@ use Rattle.format.specs.Format.{Cmd, allowed, code}
 use Rattle.format.specs.Written.{Writes}
 use Rattle.setup.specs.declared.progress.Progress.{Progress}
 use Rattle.setup.specs.Described.{WrittenBefore}
-use Rattle.setup.specs.Reading.{HeldLists, Stepped, without_items}
+use Rattle.setup.specs.Steps.{HeldLists, Stepped, without_items}
 use Rattle.setup.specs.Accepted.{RefusedAfter, lists_after}
 use Rattle.setup.specs.Refused.{LeadTo, Place, Reason, all_added, behind_opening, phase_at}
 use Rattle.setup.proofs.Added.{lists_along}

@@ -9,8 +9,8 @@ use Rattle.format.specs.Format.{Cmd, Taken, batch, terms, contest, candidate, op
 use Rattle.format.specs.Written.{Writes}
 use Rattle.format.proofs.Writing.{written_is_taken}
 use Rattle.refusal.specs.declared.Refusal.{Refusal}
-use Rattle.setup.specs.Reading.{HeldLists}
-use Rattle.setup.specs.Refused.{Added, Breaks, Full, Place, Reason, StandsAt, behind_opening, phase_at}
+use Rattle.setup.specs.Steps.{HeldLists}
+use Rattle.setup.specs.Refused.{Added, Breaks, Full, Place, Reason, IsNext, behind_opening, phase_at}
 
 -- ---- numbers
 
@@ -93,11 +93,11 @@ one_judgment ls a w m d e (broken b k) (broken c l) =
     same_number d e (omega arith)
 
 pub data Seen (ls : HeldLists) (a : Added) (w : Place) (bs : List ℕ) (e : Refusal) : Type 0 where
-  none_stands : bare w bs ≡ e → ((m : Cmd) → StandsAt w m bs → ⊥) → Seen ls a w bs e
-  one_stands : (m : Cmd) → StandsAt w m bs → Judged ls a w m e → Seen ls a w bs e
+  none_stands : bare w bs ≡ e → ((m : Cmd) → IsNext w m bs → ⊥) → Seen ls a w bs e
+  one_stands : (m : Cmd) → IsNext w m bs → Judged ls a w m e → Seen ls a w bs e
 
 module _ (ls : HeldLists) (a : Added) (w : Place) where
-  no_byte : (m : Cmd) → StandsAt w m [] → ⊥
+  no_byte : (m : Cmd) → IsNext w m [] → ⊥
   no_byte m (rest, x, g) = let h = x.begins in absurd (cc)
 
   ended : (bs : List ℕ) → Reason ls a w bs no.EndsEarly → Seen ls a w bs no.EndsEarly

@@ -4,12 +4,11 @@
 //! tries paths that cannot be read.
 #![tactic(auto)]
 
-use ballot::limits::{BATCHES, CONTESTS};
+use ballot::{BATCHES, CONTESTS};
 use bounded::List;
-use intake::memory::{CANDIDATES, Memory};
-use intake::{read_file, read_or_tell, setup_or_tell};
+use intake::{CANDIDATES, Memory, read_file, read_or_tell, setup_or_tell};
 use protocol::print_audit_of;
-use setup::lists::Lists;
+use setup::Lists;
 use std::{fs, io};
 
 /// How many places each list has.

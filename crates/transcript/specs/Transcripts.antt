@@ -6,7 +6,7 @@ use Rattle.refusal.specs.Numbers.{fault_line}
 use Rattle.ballot.specs.declared.Candidate.{Candidate}
 use Rattle.ballot.specs.declared.Contest.{Contest}
 use Rattle.setup.specs.declared.setup.Setup.{Setup}
-use Rattle.setup.specs.Reading.{HeldLists, Outcome, reading}
+use Rattle.setup.specs.Steps.{HeldLists, Outcome, read_by_steps}
 use Rattle.assertion.specs.declared.assertions.Assertion.{Assertion}
 use Rattle.betting.specs.Accounts.{Account}
 use Rattle.betting.specs.Policies.{Chosen}
@@ -67,4 +67,4 @@ ToldByOutcome o draws text = ToldIfRead o.lists draws text o.answer
 pub record Tells (setup draws text : List ℕ) : Type 0 where
   pub memory : Memory
   pub blank : Blank memory
-  pub told : ToldByOutcome (reading (empty_lists memory) setup) draws text
+  pub told : ToldByOutcome (read_by_steps (empty_lists memory) setup) draws text

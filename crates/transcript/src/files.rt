@@ -1,18 +1,16 @@
 //! The audit of two files.
 ghost use Rattle.std.specs.Prelude.{IfOk};
 ghost use Rattle.acceptance.specs.Held.{HoldsSetup};
-ghost use Rattle.setup.specs.Reading.{held_lists};
+ghost use Rattle.setup.specs.Steps.{held_lists};
 ghost use Rattle.transcript.specs.Transcripts.{Tells, Told};
 
 use crate::lines::transcript;
 use crate::memory::blank_records;
 use calls::{Answer, open};
-use format::count::commands_in;
-use intake::memory::Memory;
+use format::commands_in;
+use intake::Memory;
 use replay::replay;
-use setup::lists::Lists;
-use setup::read::read_setup;
-use setup::setup::Setup;
+use setup::{Lists, Setup, read_setup};
 use std::alloc::{AllocError, Global};
 
 /// Opens an accepted setup, and follows the draws file.

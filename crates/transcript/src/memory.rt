@@ -1,6 +1,6 @@
 //! Memory for the records of an audit.
 use assertion::{Assertion, Planned};
-use ballot::limits::ASSERTIONS;
+use ballot::ASSERTIONS;
 use betting::{ChosenPolicy, Fixed, Record};
 
 /// As many records as there can be assertions, none of them in use.

@@ -7,7 +7,7 @@ use Rattle.std.proofs.lemmas.Bool.{cases_Bool, lt-ltb}
 use Rattle.betting.specs.declared.records.Record.{Record}
 use Rattle.betting.specs.Accounts.{Account, account}
 use Rattle.betting.specs.Sums.{settled}
-use Rattle.course.specs.Terms.{Shown}
+use Rattle.course.specs.Terms.{Reading}
 use Rattle.course.specs.Course.{Rules, after_entry, all_settled}
 use Rattle.walks.specs.Walks.{settled_front}
 
@@ -31,7 +31,7 @@ module _ {A S : Type 0} (limit : ℕ) where
       ]
 
   pub entered_stays :
-      (R : Rules A S) (e : Shown) (xs : List (Account A S)) → all_settled limit xs ≡ true → map (after_entry R limit e) xs ≡ xs
+      (R : Rules A S) (e : Reading) (xs : List (Account A S)) → all_settled limit xs ≡ true → map (after_entry R limit e) xs ≡ xs
   entered_stays R e [] h = refl
   entered_stays R e (x ∷ xs) h = elim (cases_Bool (settled x.peak limit)) [
     | inl t ↦ simp t (ap (λ ys. x ∷ ys) (entered_stays R e xs (simp t at h)))

@@ -9,7 +9,7 @@ ghost use Rattle.calls.specs.Calls.{terms_of};
 
 use super::{Size, Terms};
 use assorter::Assorter;
-use ballot::limits::CONTESTS;
+use ballot::CONTESTS;
 use betting::{Policy, Record};
 use walks::{all_above, worst_risk};
 

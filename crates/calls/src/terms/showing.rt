@@ -2,10 +2,10 @@
 ghost use Rattle.std.specs.Prelude.{◌≡◌, ◌^◌, ◌≤◌, map, length, nat_lt};
 ghost use Rattle.course.specs.Terms.{blank, marks_fit, shown_refusal};
 ghost use Rattle.calls.specs.Answers.{refusal_in};
-ghost use Rattle.calls.specs.Calls.{shown_of, terms_of};
+ghost use Rattle.calls.specs.Calls.{reading_of, terms_of};
 
 use super::{Size, Terms};
-use crate::answers::Shown;
+use crate::answers::Reading;
 use refusal::Refusal;
 
 /// Whether there is no mark.
@@ -36,8 +36,8 @@ fn marks_fit(sizes: &[Size], marks: &[u32; 8]) -> bool
 }
 
 /// Refuses what is shown alone with the first refusal that applies.
-pub(crate) fn check_shown(terms: &Terms, shown: &Shown) -> Result<(), Refusal>
-    ensures { refusal_in result ≡ shown_refusal (terms_of terms.now) (shown_of shown.now) }
+pub(crate) fn check_shown(terms: &Terms, shown: &Reading) -> Result<(), Refusal>
+    ensures { refusal_in result ≡ shown_refusal (terms_of terms.now) (reading_of shown.now) }
 {
     if shown.place == 0 || shown.place > terms.cards {
         return Err(Refusal::BadPlace);

@@ -1,6 +1,6 @@
 use Rattle.std.proofs.Common.{◌≡◌}
 use Rattle.bounded.specs.Lists.{held}
-use Rattle.setup.specs.Reading.{HeldLists, held_lists}
+use Rattle.setup.specs.Steps.{HeldLists, held_lists}
 use Rattle.acceptance.specs.TwoThirds.{memory}
 use Rattle.acceptance.proofs.TwoThirds.{read_back}
 use Rattle.acceptance.proofs.worked.read.Goals as goal

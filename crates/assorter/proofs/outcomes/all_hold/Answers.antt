@@ -6,7 +6,7 @@ use Rattle.std.proofs.lemmas.Bool.{false≢true}
 use Rattle.std.proofs.lemmas.Iterator.{YieldsList-from_slice, cases_from_all}
 use Rattle.ballot.proofs.Marks.{votes_add_up}
 use Rattle.assertion.specs.declared.assertions.Planned.{Planned}
-use Rattle.assertion.specs.Assertions.{Plan, meant}
+use Rattle.assertion.specs.Assertions.{Plan, plan_of}
 use Rattle.assorter.specs.Outcomes.{AllHold}
 use Rattle.assorter.specs.Values.{Holds}
 use Rattle.assorter.proofs.Lists.{all_from_map}
@@ -28,12 +28,12 @@ returns c =
     let cards = c.args.cards.now in
     let r = c.all.result in
     let P : Plan → Type 0 = λ plan. Holds plan.claim cards in
-    let Q : Planned → Type 0 = λ x. P (meant x) in
+    let Q : Planned → Type 0 = λ x. P (plan_of x) in
     let each =
     decided Q r assertions
     (cases_from_all _ _ r Q (λ x. Q x → ⊥) c.all.ensures.ran (YieldsList-from_slice assertions cc) (λ x q k. search (rules, tests)) (λ x q k h. search (rules, tests, false≢true))) in
-    let d : Decides r (AllHold (map meant assertions) cards) =
-    (λ t. All-map P meant assertions (each.0 t), λ h. each.1 (all_from_map P meant assertions h)) in
+    let d : Decides r (AllHold (map plan_of assertions) cards) =
+    (λ t. All-map P plan_of assertions (each.0 t), λ h. each.1 (all_from_map P plan_of assertions h)) in
     record {
       decides = d;
       contest = tells_contest r assertions cards d;

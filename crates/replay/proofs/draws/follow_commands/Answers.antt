@@ -5,7 +5,7 @@ use Rattle.refusal.specs.declared.File.TheVariants.{Draws}
 use Rattle.refusal.specs.declared.Refusal.{Refusal}
 use Rattle.betting.specs.Accounts.{account}
 use Rattle.format.specs.declared.command.Phase.{Phase}
-use Rattle.format.specs.Counted.{begun}
+use Rattle.format.specs.Counted.{commands_begun}
 use Rattle.format.specs.Format.{meant}
 use Rattle.format.proofs.Counting.{counts_each}
 use Rattle.format.proofs.Writing.{taken_as_written}
@@ -49,7 +49,7 @@ commands-preserved g c =
     let asked : Asked R (terms_of t) σ (call_of m) (τ, Ok a) =
     subst (λ (r : Result Answer Refusal). Asked R (terms_of t) σ (call_of m) (τ, r)) c.in-Ok-answer.is
     (subst (λ (x : Terms). Asked R (terms_of x) σ (call_of m) (τ, c.follow-stands.result.1)) i.terms c.follow-stands.ensures.course) in
-    let one : begun rest ≡ 1 + begun after = counts_each rest m after (taken_as_written ph m rest after reads).0 in
+    let one : commands_begun rest ≡ 1 + commands_begun after = counts_each rest m after (taken_as_written ph m rest after reads).0 in
     let place : k < length xs = omega (arith, one, i.within, i.places, c.requires.places) in
     let same_terms : standing_terms u ≡ t = search rules in
     let more = followed_more R (terms_of t) start σ τ c.args.file.now rest after ph

@@ -2,7 +2,7 @@ use Rattle.std.proofs.Common.{◌≡◌, ◌+◌, ◌≤◌, map, length, take, 
 use Rattle.betting.specs.Accounts.{account}
 use Rattle.calls.specs.Calls.{standing_state, standing_terms, terms_of}
 use Rattle.course.specs.Course.{rules_of}
-use Rattle.format.specs.Counted.{begun}
+use Rattle.format.specs.Counted.{commands_begun}
 use Rattle.replay.specs.Replays.{Followed, StandsAt}
 use Rattle.replay.proofs.draws.follow_commands.Given as goal
 
@@ -18,7 +18,7 @@ invariant-commands g l =
       records : drop start.needed l.records ≡ drop start.needed l.initial.records;
       answers : drop l.answered l.answers ≡ drop l.answered l.initial.answers;
       room : start.needed ≤ length l.records;
-      within : l.answered + begun l.rest ≤ begun l.file;
+      within : l.answered + commands_begun l.rest ≤ commands_begun l.file;
       shorter : length l.rest ≤ length l.file;
       places : length l.answers ≡ length l.initial.answers;
     }

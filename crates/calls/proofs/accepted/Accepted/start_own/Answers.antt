@@ -1,6 +1,6 @@
 use Rattle.std.proofs.Common.{◌≡◌, ℕ, ◌≤◌, map, length, drop, ap, ◌∙◌, subst, arith, rules}
 use Rattle.bounded.specs.Lists.{held}
-use Rattle.assertion.specs.Assertions.{meant}
+use Rattle.assertion.specs.Assertions.{plan_of}
 use Rattle.betting.specs.Accounts.{account}
 use Rattle.betting.specs.Policies.{chosen_state}
 use Rattle.opening.specs.Starts.{fewer, start_answer}
@@ -35,7 +35,7 @@ returns-clause-accounts c =
     let holds = c.in_ok-list_assertions.ensures.holds in
     let items = c.items.result.now in
     let told = c.start_records.ensures in
-    start_planned s xs cs (relied_on s xs cs c.args.self.now.holds) items (ap (map meant) c.items.ensures ∙ holds.items)
+    start_planned s xs cs (relied_on s xs cs c.args.self.now.holds) items (ap (map plan_of) c.items.ensures ∙ holds.items)
     (ap length c.items.ensures ∙ holds.count) (fewer (length items) rs) c.start_records.result
     (map (account chosen_state) rs) (map (account chosen_state) c.start_records.new.records) told.answer
     told.accounts

@@ -4,7 +4,7 @@ use Rattle.betting.specs.Accounts.{account}
 use Rattle.course.specs.Course.{after_count, answered, rules_of, unless_refused}
 use Rattle.course.specs.Course.Call.{hand_count}
 use Rattle.calls.specs.declared.answers.Answer.TheVariants.{Taken}
-use Rattle.calls.specs.Calls.{called, count_state, first_refusal, in_code, shown_of, terms_of}
+use Rattle.calls.specs.Calls.{called, count_state, first_refusal, in_code, reading_of, terms_of}
 use Rattle.calls.proofs.Moves.{count_moved}
 use Rattle.calls.proofs.counting.HandCount.count.Goals as goal
 
@@ -12,7 +12,7 @@ pub returns-clause-course : goal.returns-clause-course
 returns-clause-course g c =
     let h = c.args.self.now in
     let t = terms_of h.terms in
-    let e = shown_of c.args.shown.now in
+    let e = reading_of c.args.shown.now in
     let R = rules_of g.A.Assorter g.P.Policy in
     let m = account {A = g.row.A.Denot} g.P.Policy.state in
     let rs = c.args.records.now in

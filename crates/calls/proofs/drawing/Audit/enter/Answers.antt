@@ -5,7 +5,7 @@ use Rattle.betting.specs.Accounts.{account}
 use Rattle.course.specs.Course.{after_entry, answered, rules_of, unless_refused}
 use Rattle.course.specs.Course.Call.{entry}
 use Rattle.calls.specs.declared.answers.Answer.TheVariants.{Taken}
-use Rattle.calls.specs.Calls.{audit_state, called, first_refusal, in_code, shown_of, terms_of}
+use Rattle.calls.specs.Calls.{audit_state, called, first_refusal, in_code, reading_of, terms_of}
 use Rattle.calls.proofs.Moves.{entry_moved}
 use Rattle.calls.proofs.drawing.Audit.enter.Goals as goal
 
@@ -13,7 +13,7 @@ pub returns-clause-course : goal.returns-clause-course
 returns-clause-course g c =
     let a = c.args.self.now in
     let t = terms_of a.terms in
-    let e = shown_of c.args.shown.now in
+    let e = reading_of c.args.shown.now in
     let R = rules_of g.A.Assorter g.P.Policy in
     let m = account {A = g.row.A.Denot} g.P.Policy.state in
     let rs = c.args.records.now in
