@@ -69,7 +69,6 @@ pub fn play<A: Copy, P: Policy + Copy>(
     if held.is_settled(risk_limit) {
         return;
     }
-    // By a rule of the project a record is read field by field, and written back whole.
     let assorter = held.assorter;
     let mut policy = held.policy;
     let tally = held.tally;

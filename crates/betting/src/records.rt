@@ -14,8 +14,6 @@ pub struct Record<A, P> {
     ghost ranges: { (wealth ≤ peak) × (1000000000 ≤ peak) × (peak ≤ most_wealth) × (tally ≤ last_tally) },
 }
 
-// By hand, and `Copy` with it: `Clone` cannot be derived for a struct with a ghost field, if it has
-// type parameters.
 impl<A: Copy, P: Copy> Clone for Record<A, P> {
     ghost use Rattle.std.specs.Prelude.{◌≡◌, ⊤, Ok};
 

@@ -10,7 +10,6 @@ use refusal::Refusal;
 ///
 /// Each method says over which memory the list is afterwards, which is how the owner of the memory
 /// knows what it holds once the list has ended.
-// Beside a lent `&mut` the prover covers no invariant, so `len` is bounded where it is read.
 #[derive(Drop)]
 pub struct List<'a, T> {
     slots: &'a mut [T],
@@ -63,7 +62,6 @@ impl<'a, T: Copy> List<'a, T> {
         if self.len >= self.slots.len() {
             return Err(Refusal::NoRoom);
         }
-        // By index: after a write through `get_mut` a proof knows the places' number alone.
         self.slots[self.len] = x;
         self.len += 1;
         Ok(())
@@ -85,7 +83,6 @@ impl<'a, T: Copy> List<'a, T> {
         if i >= self.len() {
             return Err(Refusal::PastTheEnd);
         }
-        // By index, as in `append`.
         self.slots[i] = x;
         Ok(())
     }

@@ -12,9 +12,6 @@ use verdict::{Finding, Verdict};
 use walks::{each_settled, enter_from, first_unsettled};
 
 /// An audit that draws cards. It is plain numbers; the records are lent at each call.
-// Each call asks anew whether the records lent are enough: they are lent at each call, by a rule of
-// the project, and no fact can be kept beside a lent `&mut`, since the prover has no rules of
-// borrowing for a ghost field there.
 #[derive(Drop)]
 pub struct Audit {
     pub(crate) terms: Terms,

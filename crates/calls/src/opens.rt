@@ -39,8 +39,6 @@ fn no_setup(setup: Setup) -> NotOpened
 /// Opens a setup, with its lists as read, to an audit: fills one record for each assertion of the
 /// contests, in order. Lists that hold no accepted setup with these numbers are refused first, then
 /// too few records; then nothing changes, and the setup is given back.
-// Contests and candidates stay two slices, here and below: the caller lends the memory that each
-// list was read into.
 pub fn open(
     setup: Setup,
     contests: &[Contest],
@@ -60,7 +58,6 @@ pub fn open(
         contests,
         candidates,
     };
-    // No `?` here: the error takes the setup back, which an opened audit still needs.
     if let Err(refusal) = accepted.start_own(records) {
         return Err(NotOpened { refusal, setup });
     }

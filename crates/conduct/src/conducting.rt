@@ -29,7 +29,6 @@ fn answer_all<S: Stage, A: Assorter + Copy, P: Policy + Copy>(
     ensures beyond { drop (S.terms stage.old).needed records.new ≡ drop (S.terms stage.old).needed records.old }
     ensures places { drop (length calls.now) answers.new ≡ drop (length calls.now) answers.old }
 {
-    // By index: of places that a zip with `iter_mut` wrote, a proof knows only how many there are.
     for (i, call) in calls.iter().enumerate() {
         answers[i] = stage.answer(records, *call);
     }

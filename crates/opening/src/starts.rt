@@ -16,8 +16,6 @@ fn start_each<R: Copy, F: Fn(usize) -> R>(records: &mut [R], start: F)
     requires { (i : ℕ) → i < length records.old → F.pre start i }
     ensures { AllZip (F.post start) (range_with_len 0 (length records.old)) records.new }
 {
-    // `start` takes an index: of records that a zip with `iter_mut` wrote, a proof knows only how
-    // many there are.
     for (i, held) in records.iter_mut().enumerate() {
         *held = start(i);
     }

@@ -8,8 +8,6 @@ use calls::Reading;
 use std::array;
 
 /// Four bytes as a number, the most significant first.
-// By place, here and below: with `as_chunks::<4>()` it stayed open that the numbers of the chunks
-// are the card's marks.
 fn number(bytes: &[u8; 32], at: usize) -> u32
     requires { at + 4 ≤ 32 }
     ensures { result ≡ four bytes.now at }

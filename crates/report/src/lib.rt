@@ -17,8 +17,6 @@ type Line = ArrayString<23>;
 /// The lines of a verdict or a close.
 pub type Text = ArrayString<256>;
 
-// Lines are pushed: where a `write!` fails it promises nothing, and no exact answer would follow.
-
 /// "contest 1 risk 46"
 fn risk_line(contest: u8, risk: u16) -> Line
     ensures { result.bytes ≡ risk_line contest risk }

@@ -21,7 +21,6 @@ fn tell_each<R, T: Copy, F: Fn(&[R]) -> T>(sizes: &[Size], records: &[R], places
     ensures rest { drop (length sizes.now) places.new ≡ drop (length sizes.now) places.old }
 {
     let mut rest = records;
-    // By place: of places that a zip with `iter_mut` wrote, a proof knows only how many there are.
     for (i, size) in sizes.iter().enumerate() {
         let count = (size.assertions as usize).min(rest.len());
         let (part, later) = rest.split_at(count);
