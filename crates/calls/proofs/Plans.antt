@@ -1,5 +1,5 @@
 -- The accounts in which the planned assertions start.
-use Rattle.std.proofs.Common.{◌≡◌, ℕ, ◌+◌, ◌-◌, ◌*◌, ◌/◌, ◌<◌, ◌≤◌, Bool, true, false, cond, leb, List, [], ◌∷◌, ◌++◌, map, length, take, drop, Some, None, Ok, Err, sum_by, Result, sym, refl, ap, ◌∙◌, subst, arith}
+use Rattle.std.proofs.Common.{◌≡◌, ℕ, ◌+◌, ◌-◌, ◌*◌, ◌/◌, ◌<◌, ◌≤◌, Bool, true, false, cond, leb, List, [], ◌∷◌, ◌++◌, map, length, take, drop, Some, None, Ok, Err, sum_by, Result, sym, refl, ap, ◌∙◌, subst, arith, OnOk}
 use lib.ListN.{length-map}
 use Rattle.std.specs.List.{AllByRecursion}
 use Rattle.std.proofs.ByRecursion.{All-append, All-map, All-weaker}
@@ -34,7 +34,7 @@ use Rattle.betting.specs.Accounts.{Account, fresh_account}
 use Rattle.betting.specs.Policies.{Chosen}
 use Rattle.betting.specs.Shrinks.{begins_in_range, fresh}
 use Rattle.opening.specs.Starts.{after_start, shrinking_or, start_answer, started_plan}
-use Rattle.calls.specs.Openings.{AsPlanned, PlansIfStarted, by_claim, plan_account}
+use Rattle.calls.specs.Openings.{AsPlanned, by_claim, plan_account}
 
 -- what holds of each element holds of all
 pub all_of : {X : Type 0} (P : X → Type 0) → ((x : X) → P x) → (xs : List X) → AllByRecursion P xs
@@ -137,6 +137,6 @@ module _ (s : Setup) (xs : List Contest) (cs : List Candidate) (f : OpeningFacts
 
   pub start_planned :
       (too_few : Bool) (r : Result Unit Refusal) (old new : List (Account Assertion Chosen)) → r ≡ start_answer too_few →
-      new ≡ after_start too_few (length items) (map (started_plan policy) items) old → PlansIfStarted s xs cs new r
-  start_planned true r old new answer e = subst (PlansIfStarted s xs cs new) (sym answer) tt
-  start_planned false r old new answer e = subst (PlansIfStarted s xs cs new) (sym answer) (all_start old new e)
+      new ≡ after_start too_few (length items) (map (started_plan policy) items) old → OnOk r (AsPlanned s xs cs new)
+  start_planned true r old new answer e = subst (λ o. OnOk o (AsPlanned s xs cs new)) (sym answer) tt
+  start_planned false r old new answer e = subst (λ o. OnOk o (AsPlanned s xs cs new)) (sym answer) (all_start old new e)

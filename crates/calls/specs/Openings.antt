@@ -76,16 +76,11 @@ module _ {A S : Type 0} (R : Rules A S) where
     pub follows : FollowsCourse R (terms_of audit.terms) (audit_state audit accounts)
     pub promise : Promised R (terms_of audit.terms) (audit_state audit accounts)
 
-  abbrev pub BegunIfOpened : Setup → List Contest → List (Account A S) → Result Audit NotOpened → Type 0
-  BegunIfOpened s xs accounts (Ok audit) = Begun s xs accounts audit
-  BegunIfOpened s xs accounts (Err x) = Unit {0}
-
 -- ---- with the caller's own assorters and policies
 
 -- The first n accounts are those of the assorters and the policies beside them.
-abbrev pub StartsWith : {A S : Type 0} → ℕ → List A → List S → List (Account A S) → Result Audit NotOpened → Type 0
-StartsWith n assorters states accounts (Ok audit) = take n accounts ≡ take n (started assorters states)
-StartsWith n assorters states accounts (Err x) = Unit {0}
+abbrev pub StartsWith : {A S : Type 0} → ℕ → List A → List S → List (Account A S) → Type 0
+StartsWith n assorters states accounts = take n accounts ≡ take n (started assorters states)
 
 -- ---- with the contests' own assertions
 
@@ -113,17 +108,9 @@ module _ (s : Setup) (xs : List Contest) (cs : List Candidate) (accounts : List 
   abbrev pub AsPlanned : Type 0
   AsPlanned = map by_claim (take s.assertions accounts) ≡ map (plan_account s.terms.policy) (planned 0 xs cs)
 
-  abbrev pub PlansIfStarted : Result Unit Refusal → Type 0
-  PlansIfStarted (Ok done) = AsPlanned
-  PlansIfStarted (Err e) = Unit {0}
-
   -- So the promise speaks of the outcomes: which contests were truly won by their reported winners.
   pub record OwnAssertions (audit : Audit) : Type 0 where
     pub as_planned : AsPlanned
     pub contradicted_when_lost : ContradictedWhenLost xs cs (terms_of audit.terms) (audit_state audit accounts)
     pub limits_wrong_boards : LimitsWrongBoards xs cs (terms_of audit.terms) (audit_state audit accounts)
     pub hand_count_decides : HandCountDecides xs cs (terms_of audit.terms) (audit_state audit accounts)
-
-  abbrev pub OwnIfOpened : Result Audit NotOpened → Type 0
-  OwnIfOpened (Ok audit) = OwnAssertions audit
-  OwnIfOpened (Err x) = Unit {0}

@@ -1,12 +1,12 @@
 //! What an audit opens with.
-ghost use Rattle.std.specs.Prelude.{◌≡◌, ◌≤◌, map, length, drop};
+ghost use Rattle.std.specs.Prelude.{◌≡◌, ◌≤◌, map, length, drop, OnOk};
 ghost use Rattle.acceptance.specs.Held.{HoldsSetup};
 ghost use Rattle.betting.specs.Accounts.{account};
 ghost use Rattle.betting.specs.Policies.{chosen_state};
 ghost use Rattle.course.specs.Course.{rules_of};
 ghost use Rattle.opening.specs.Starts.{fewer, RefusedUnchanged, start_answer};
 ghost use Rattle.calls.specs.Calls.{terms_of};
-ghost use Rattle.calls.specs.Openings.{AlwaysPromised, OfSetup, PlansIfStarted, setup_terms, size_of};
+ghost use Rattle.calls.specs.Openings.{AlwaysPromised, AsPlanned, OfSetup, setup_terms, size_of};
 
 use crate::drawing::Audit;
 use crate::terms::{Size, Terms};
@@ -62,7 +62,7 @@ impl Accepted<'_> {
         records: &mut [Record<Assertion, ChosenPolicy>],
     ) -> Result<(), Refusal>
         ensures answer { result ≡ start_answer (fewer self.now.setup.now.assertions records.old) }
-        ensures accounts { PlansIfStarted self.now.setup.now self.now.contests.now self.now.candidates.now (map (account chosen_state) records.new) result }
+        ensures accounts { OnOk result (AsPlanned self.now.setup.now self.now.contests.now self.now.candidates.now (map (account chosen_state) records.new)) }
         ensures beyond { drop self.now.setup.now.assertions records.new ≡ drop self.now.setup.now.assertions records.old }
         ensures refused { RefusedUnchanged result records.old records.new }
     {

@@ -1,12 +1,12 @@
 //! The calls that open an audit.
-ghost use Rattle.std.specs.Prelude.{◌≡◌, map, drop};
+ghost use Rattle.std.specs.Prelude.{◌≡◌, map, drop, IfOk, OnOk};
 ghost use Rattle.refusal.specs.declared.Refusal.TheVariants.{NoSetup};
 ghost use Rattle.betting.specs.Accounts.{account};
 ghost use Rattle.betting.specs.Policies.{chosen_state};
 ghost use Rattle.course.specs.Course.{rules_of};
 ghost use Rattle.course.specs.Openings.{own_rules};
 ghost use Rattle.opening.specs.Starts.{any_fewer, fewer};
-ghost use Rattle.calls.specs.Openings.{BegunIfOpened, KeepsOthers, Opens, OwnIfOpened, StartsWith};
+ghost use Rattle.calls.specs.Openings.{Begun, KeepsOthers, Opens, OwnAssertions, StartsWith};
 
 use crate::accepted::Accepted;
 use crate::drawing::Audit;
@@ -46,8 +46,8 @@ pub fn open(
     records: &mut [Record<Assertion, ChosenPolicy>],
 ) -> Result<Audit, NotOpened>
     ensures answer { Opens setup contests.now candidates.now (fewer setup.assertions records.old) result }
-    ensures begun { BegunIfOpened own_rules setup contests.now (map (account chosen_state) records.new) result }
-    ensures own { OwnIfOpened setup contests.now candidates.now (map (account chosen_state) records.new) result }
+    ensures begun { IfOk result (Begun own_rules setup contests.now (map (account chosen_state) records.new)) }
+    ensures own { IfOk result (OwnAssertions setup contests.now candidates.now (map (account chosen_state) records.new)) }
     ensures others { KeepsOthers setup.assertions records.old records.new result }
 {
     if !holds_setup(&setup, contests, candidates) {
@@ -77,8 +77,8 @@ pub fn open_with<A: Assorter + Copy, P: Policy + Copy>(
     records: &mut [Record<A, P>],
 ) -> Result<Audit, NotOpened>
     ensures answer { Opens setup contests.now candidates.now (any_fewer setup.assertions assorters.now policies.now records.old) result }
-    ensures begun { BegunIfOpened (rules_of A.Assorter P.Policy) setup contests.now (map (account P.state) records.new) result }
-    ensures accounts { StartsWith setup.assertions assorters.now (map P.state policies.now) (map (account P.state) records.new) result }
+    ensures begun { IfOk result (Begun (rules_of A.Assorter P.Policy) setup contests.now (map (account P.state) records.new)) }
+    ensures accounts { OnOk result (StartsWith setup.assertions assorters.now (map P.state policies.now) (map (account P.state) records.new)) }
     ensures others { KeepsOthers setup.assertions records.old records.new result }
 {
     if !holds_setup(&setup, contests, candidates) {

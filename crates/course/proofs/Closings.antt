@@ -14,7 +14,7 @@ use Rattle.course.specs.Course.Call.{entry, verdict, escalation, hand_count, clo
 use Rattle.course.specs.Course.Answer.{upheld}
 use Rattle.course.specs.Scripts.{CastCards, show_card, show_drawn, show_missing}
 use Rattle.course.specs.Bounds.{Fits, Opened}
-use Rattle.course.specs.Laws.{BeforeEscalation, ClaimsHold, ClosesRightly, CountsDecide, counts_to, left_by}
+use Rattle.course.specs.Laws.{BeforeEscalation, ClaimsHold, ClosesBy, CountsDecide, counts_to, left_by}
 use Rattle.course.proofs.Steps.{by_cond, by_step, drawn_shown, taken_step}
 use Rattle.course.proofs.Fairness.{entry_assorter, entry_tally, sum_const, sum_le, sum_places}
 use Rattle.course.proofs.Rules.{Lawful}
@@ -168,7 +168,7 @@ module _ {A S : Type 0} (R : Rules A S) (t : Terms) where
       fresh_tallies [] h = tt
       fresh_tallies (x ∷ xs) h = ((refl, ap (λ (y : Account A S). y.tally) h.0), fresh_tallies xs h.1)
 
-      closes_rightly : (σ : State A S) → Opened σ → (before : List Call) → AllByRecursion BeforeEscalation before → ClosesRightly R t σ before b
+      closes_rightly : (σ : State A S) → Opened σ → (before : List Call) → AllByRecursion BeforeEscalation before → ClosesBy R t (ClaimsHold R t σ b) σ before b
       closes_rightly σ o before h =
           let xs = σ.accounts in
           let start : CountedTo xs 0 σ = record { number = o.uncounted; tallies = each_same (TalliedTo 0) xs (fresh_tallies xs o.fresh) } in

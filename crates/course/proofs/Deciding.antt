@@ -13,7 +13,7 @@ use Rattle.course.specs.Terms.{Terms}
 use Rattle.course.specs.Course.{Rules, State, Answer, course, risks}
 use Rattle.course.specs.Course.Answer.{refused, taken, finding, upheld}
 use Rattle.course.specs.Scripts.{CastCards, calls, draws_in}
-use Rattle.course.specs.Bounds.{Any, accounts_of, Confirms, Contradicted, CountsExist, LowRisk, WrongAnswer}
+use Rattle.course.specs.Bounds.{Any, accounts_of, Contradicted, CountsExist, LowRisk, WrongAnswer}
 use Rattle.course.proofs.Rules.{Lawful}
 
 pub both : {A B : Type 0} → Dec A → Dec B → Dec (A × B)
@@ -57,10 +57,10 @@ place_decided : (us : List Bool) (P : ℕ → Type 0) → ((k : ℕ) → Dec (P 
 place_decided [] P dec = no (λ w. false≢true w.2)
 place_decided (u ∷ us) P dec = first_or_later P u us (both (dec 0) (is_true u)) (place_decided us (λ k. P (suc k)) (λ k. dec (suc k)))
 
-confirms_decided : (f : Finding) → Dec (Confirms f)
-confirms_decided Confirm = yes tt
-confirms_decided Continue = no (λ m. m)
-confirms_decided FullHandCount = no (λ m. m)
+confirms_decided : (f : Finding) → Dec (f ≡ Confirm)
+confirms_decided Confirm = yes refl
+confirms_decided Continue = no (λ m. cc)
+confirms_decided FullHandCount = no (λ m. cc)
 
 module _ {A S : Type 0} (R : Rules A S) (law : Lawful R) where
   -- a claim holds of the cards or not, by their values

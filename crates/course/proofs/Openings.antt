@@ -1,6 +1,5 @@
 -- What the accounts of the contests' own assertions tell of the outcomes.
 use Rattle.std.proofs.Common.{◌≡◌, ℕ, zero, suc, ◌+◌, ◌<◌, ◌≤◌, ◌⊎◌, List, [], ◌∷◌, ◌++◌, map, length, get_or, take, drop, sym, refl, ap, ◌∙◌, subst, inl, inr, ⊎_elim, arith}
-use lib.ListN.{length-map}
 use Rattle.std.specs.List.{AllByRecursion}
 use Rattle.std.proofs.ByRecursion.{All-map}
 use Rattle.std.proofs.lemmas.List.{drop_at, drop-map, take_at, take-map}
@@ -127,13 +126,11 @@ module _ (xs : List Contest) (cs : List Candidate) (t : Terms) (σ : State Asser
   pub hand_count_decides : CountsDecide own_rules → Opened σ → t.cards ≤ 65535 → HandCountDecides xs cs t σ
   hand_count_decides decide fresh few before h b fits =
       let closes = decide t σ fresh few before h b fits in
-      let within : (k : ℕ) → k < length xs → k < length t.assertions =
-      λ k lt. subst (λ n. k < n) (sym (ap length own.parts_are ∙ length-map xs assertion_count)) lt in
       record {
         outcomes = closes.outcomes;
         answer = closes.answer;
-        only_if_won = λ k lt e. (claims_tell_won b k).0 (closes.only_if k (within k lt) e);
-        just_when_won = λ found k lt.
-            let hold = closes.just_when found k (within k lt) in
+        only_if = λ k lt e. (claims_tell_won b k).0 (closes.only_if k lt e);
+        just_when = λ found k lt.
+            let hold = closes.just_when found k lt in
             let tell = claims_tell_won b k in (λ e. tell.0 (hold.0 e), λ won. hold.1 (tell.1 won));
       }

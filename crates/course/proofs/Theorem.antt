@@ -23,7 +23,7 @@ use Rattle.course.specs.Course.{Rules, State, Call, Answer, after_count, after_e
 use Rattle.course.specs.Course.Call.{entry, verdict, escalation, hand_count, closing}
 use Rattle.course.specs.Course.Answer.{taken}
 use Rattle.course.specs.Scripts.{CastCards, Move, Hand, calls, draws_in, hand_call, hand_calls, show_card, show_drawn, show_missing}
-use Rattle.course.specs.Bounds.{Any, AtMostBring, accounts_of, Confirms, Contradicted, Fits, LimitsRisk, LowRisk, MeasuresRisk, Opened, WrongAnswer}
+use Rattle.course.specs.Bounds.{Any, AtMostBring, accounts_of, Contradicted, Fits, LimitsRisk, LowRisk, MeasuresRisk, Opened, WrongAnswer}
 use Rattle.course.specs.Laws.{NeverUpholdsWrongly, UpholdsTruly}
 use Rattle.course.proofs.Steps.{by_step, closed_all, counted_place, drawn_shown, misread_count, misread_entry, some_not_none, taken_step}
 use Rattle.course.proofs.Deciding.{all_or_any, claim_or_not}
@@ -219,10 +219,10 @@ module _ {A S : Type 0} (R : Rules A S) (t : Terms) (b : CastCards) where
         let above' : R.half a * t.cards < (at τ).tally = subst (λ x. R.half x * t.cards < (at τ).tally) kept.same above in
         omega (arith, above', kept.little, sum)
 
-confirms_all : (v u : Bool) → Confirms (cond v Confirm (cond u FullHandCount Continue)) → v ≡ true
+confirms_all : (v u : Bool) → cond v Confirm (cond u FullHandCount Continue) ≡ Confirm → v ≡ true
 confirms_all true u c = refl
-confirms_all false true c = elim c [ ]
-confirms_all false false c = elim c [ ]
+confirms_all false true c = cc
+confirms_all false false c = cc
 
 first_in : {X : Type 0} (xs : List X) (n : ℕ) → n < length xs → X
 first_in [] n h = absurd (omega arith)

@@ -3,8 +3,7 @@ use Rattle.std.specs.Prelude.{◌≡◌, ℕ, ◌<◌, ◌≤◌, true, false, �
 use Rattle.std.specs.List.{AllByRecursion}
 use Rattle.chance.specs.Sequences.{sequences, AtMostIn, Counted}
 use Rattle.betting.specs.Accounts.{Account, fresh_account}
-use Rattle.verdict.specs.declared.Finding.{Finding}
-use Rattle.verdict.specs.declared.Finding.TheVariants.{Confirm, Continue, FullHandCount}
+use Rattle.verdict.specs.declared.Finding.TheVariants.{Confirm}
 use Rattle.course.specs.Terms.{Terms, marks_fit}
 use Rattle.course.specs.Course.{Rules, State, Answer, parts, risks, course}
 use Rattle.course.specs.Course.Answer.{refused, taken, finding, upheld}
@@ -14,11 +13,6 @@ use Rattle.course.specs.Scripts.{CastCards, Move, Hand, calls, draws_in}
 abbrev pub Any : {X : Type 0} → (X → Type 0) → List X → Type 0
 Any P [] = ⊥
 Any P (x ∷ xs) = P x ⊎ Any P xs
-
-abbrev pub Confirms : Finding → Type 0
-Confirms Confirm = Unit {0}
-Confirms Continue = ⊥
-Confirms FullHandCount = ⊥
 
 -- They are as many cards as the audit has, each marked for candidates alone.
 pub record Fits (t : Terms) (b : CastCards) : Type 0 where
@@ -49,7 +43,7 @@ module _ {A S : Type 0} (R : Rules A S) (t : Terms) (σ : State A S) where
   WrongAnswer b x = elim x.1 [
     | refused r ↦ ⊥
     | taken ↦ ⊥
-    | finding f d rs ↦ Confirms f
+    | finding f d rs ↦ f ≡ Confirm
     | upheld us ↦ (k : ℕ) × Contradicted b k × (slice_index_or us k false ≡ true)
   ]
 

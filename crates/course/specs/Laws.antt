@@ -79,15 +79,15 @@ module _ {A S : Type 0} (R : Rules A S) (t : Terms) where
   abbrev pub closing_answer : State A S → List Call → CastCards → Answer
   closing_answer σ before b = (step R t (left_by σ (before ++ (escalation ∷ counts_to b t.cards))) closing).1
 
-  -- The closing after all places were counted upholds a contest only if its claims hold, and, where no card is missing,
-  -- just then.
-  pub record ClosesRightly (σ : State A S) (before : List Call) (b : CastCards) : Type 0 where
+  -- After all places were counted the closing is answered, and upholds a contest only if it holds, and, where no card is
+  -- missing, just then.
+  pub record ClosesBy (Holds : ℕ → Type 0) (σ : State A S) (before : List Call) (b : CastCards) : Type 0 where
     pub outcomes : List Bool
     pub answer : closing_answer σ before b ≡ upheld outcomes
-    pub only_if : (k : ℕ) → k < length t.assertions → slice_index_or outcomes k false ≡ true → ClaimsHold σ b k
+    pub only_if : (k : ℕ) → k < length t.assertions → slice_index_or outcomes k false ≡ true → Holds k
     pub just_when :
         ((i : ℕ) → b.missing i ≡ false) →
-        (k : ℕ) → k < length t.assertions → JustWhen (slice_index_or outcomes k false ≡ true) (ClaimsHold σ b k)
+        (k : ℕ) → k < length t.assertions → JustWhen (slice_index_or outcomes k false ≡ true) (Holds k)
 
 module _ {A S : Type 0} (R : Rules A S) where
   -- Every verdict confirms just when each contest's risk is at most the risk limit.
@@ -114,7 +114,8 @@ module _ {A S : Type 0} (R : Rules A S) where
   abbrev pub CountsDecide : Type 0
   CountsDecide =
       (t : Terms) (σ : State A S) → Opened σ → t.cards ≤ 65535 →
-      (before : List Call) → AllByRecursion BeforeEscalation before → (b : CastCards) → Fits t b → ClosesRightly R t σ before b
+      (before : List Call) → AllByRecursion BeforeEscalation before → (b : CastCards) → Fits t b →
+      ClosesBy R t (ClaimsHold R t σ b) σ before b
 
   -- No script upholds a contest of which a claim is false.
   abbrev pub NeverUpholdsWrongly : Type 0

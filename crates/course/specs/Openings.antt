@@ -1,5 +1,5 @@
 -- Audits that are opened by the contests' own assertions: their bound and their hand count in terms of the outcomes.
-use Rattle.std.specs.Prelude.{◌≡◌, ℕ, ◌<◌, Bool, true, false, List, length, slice_index_or}
+use Rattle.std.specs.Prelude.{◌≡◌, ℕ, List}
 use Rattle.std.specs.List.{AllByRecursion}
 use Rattle.ballot.specs.declared.Candidate.{Candidate}
 use Rattle.ballot.specs.declared.Card.{Card}
@@ -14,10 +14,9 @@ use Rattle.assorter.specs.Values.{Holds, worth}
 use Rattle.betting.specs.Policies.{Chosen, chosen_bet, chosen_told}
 use Rattle.course.specs.Terms.{Terms}
 use Rattle.course.specs.Course.{Rules, State, Call}
-use Rattle.course.specs.Course.Answer.{upheld}
 use Rattle.course.specs.Scripts.{CastCards}
 use Rattle.course.specs.Bounds.{AtMostBring, Contradicted, Fits, WrongAnswer}
-use Rattle.course.specs.Laws.{BeforeEscalation, closing_answer}
+use Rattle.course.specs.Laws.{BeforeEscalation, ClosesBy}
 
 -- The rules of a setup's own assertions and policies.
 abbrev pub own_rules : Rules Assertion Chosen
@@ -47,19 +46,9 @@ module _ (xs : List Contest) (cs : List Candidate) (t : Terms) (σ : State Asser
       (b : CastCards) → Fits t b → (k : ℕ) → (Won k xs cs b.cards → ⊥) →
       AtMostBring own_rules t σ b t.limit 1000 (WrongAnswer own_rules t σ b)
 
-  -- Once each place was counted, with its card as it is or missing, the closing is answered. It upholds a contest only if
-  -- its reported winners truly won, and, where no card is missing, exactly then.
-  pub record ClosesByTheVotes (before : List Call) (b : CastCards) : Type 0 where
-    pub outcomes : List Bool
-    pub answer : closing_answer own_rules t σ before b ≡ upheld outcomes
-    pub only_if_won :
-        (k : ℕ) → k < length xs → slice_index_or outcomes k false ≡ true → Won k xs cs b.cards
-    pub just_when_won :
-        ((i : ℕ) → b.missing i ≡ false) →
-        (k : ℕ) → k < length xs → JustWhen (slice_index_or outcomes k false ≡ true) (Won k xs cs b.cards)
-
   -- A hand count that shows every card truly and found upholds a contest exactly when its reported winners truly won, and
   -- with cards missing only then, whatever was entered before it.
   abbrev pub HandCountDecides : Type 0
   HandCountDecides =
-      (before : List Call) → AllByRecursion BeforeEscalation before → (b : CastCards) → Fits t b → ClosesByTheVotes before b
+      (before : List Call) → AllByRecursion BeforeEscalation before → (b : CastCards) → Fits t b →
+      ClosesBy own_rules t (λ k. Won k xs cs b.cards) σ before b

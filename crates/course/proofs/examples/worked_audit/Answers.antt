@@ -12,7 +12,7 @@ worked = record {
   lowest = refl;
   counted = lacks (⊎_elim (λ m. omega arith) (λ m. m)) (has (inl (omega arith, omega arith)) none);
   none_lower = lacks (⊎_elim (λ m. omega arith) (λ m. m)) (lacks (⊎_elim (λ m. omega arith) (λ m. m)) none);
-  misled = lacks (⊎_elim (λ m. m) (⊎_elim (λ m. m) (λ m. m))) (has (inr (inl tt)) none);
+  misled = lacks (⊎_elim (λ m. m) (⊎_elim (λ m. cc) (λ m. m))) (has (inr (inl refl)) none);
   bounded = omega arith;
   fits = record { number = refl; marked = (refl, (refl, tt)) };
   opens = record { fresh = (refl, tt); undrawn = refl; uncounted = refl };
