@@ -19,16 +19,16 @@ two_thirds a b =
     ++ (0x04 ∷ codes "BAKER   " ++ (0 ∷ b ∷ []))
     ++ (0x05 ∷ [])
 
-abbrev pub blank : List ℕ
-blank = replicate 8 0
+abbrev pub no_name : List ℕ
+no_name = replicate 8 0
 
 -- Memory for a batch, a contest and two candidates.
 abbrev pub memory : HeldLists
 memory =
     record {
-      batches = record { items = []; memory = record { name = blank; cards = 0 } ∷ [] };
+      batches = record { items = []; memory = record { name = no_name; cards = 0 } ∷ [] };
       contests = record { items = []; memory = record { kind = Plurality; candidates = 0; seats = 0 } ∷ [] };
-      candidates = record { items = []; memory = record { name = blank; votes = 0 } ∷ record { name = blank; votes = 0 } ∷ [] };
+      candidates = record { items = []; memory = record { name = no_name; votes = 0 } ∷ record { name = no_name; votes = 0 } ∷ [] };
     }
 
 unfoldable pub read : ℕ → ℕ → Outcome

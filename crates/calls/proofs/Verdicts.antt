@@ -14,7 +14,7 @@ use Rattle.course.specs.Laws.{left_by}
 use Rattle.course.proofs.Runs.{confirms_by_risk, counts_draws}
 use Rattle.calls.specs.declared.answers.Answer.{Answer}
 use Rattle.calls.specs.declared.answers.Answer.TheVariants.{Finding}
-use Rattle.calls.specs.Answers.{ConfirmsByRisk, CountsEntries}
+use Rattle.calls.specs.Answers.{ConfirmedByRisk, CountsEntries}
 use Rattle.calls.specs.Calls.{called, first_refusal, in_code}
 
 module _ {A S : Type 0} (R : Rules A S) (t : Terms) (σ : State A S) where
@@ -31,7 +31,7 @@ module _ {A S : Type 0} (R : Rules A S) (t : Terms) (σ : State A S) where
     answers : v ≡ found
     answers = is_found (first_refusal t lent σ verdict) τ v same
 
-    pub confirms : sum t.assertions ≡ length σ.accounts → t.limit < 2 ^ 16 → ConfirmsByRisk t.limit (Ok v)
+    pub confirms : sum t.assertions ≡ length σ.accounts → t.limit < 2 ^ 16 → ConfirmedByRisk t.limit (Ok v)
     confirms there low =
         let rs = risks t σ in
         let own : rs ≡ contest_risks found = sym (take_at rs (replicate (8 - length rs) 0) (length rs) refl) in

@@ -32,9 +32,9 @@ DrawsWithin most (Ok v) = v.draws ≤ most
 DrawsWithin most (Err e) = Unit {0}
 
 -- A verdict confirms just when each contest's risk is at most the risk limit.
-abbrev pub ConfirmsByRisk : ℕ → Result Verdict Refusal → Type 0
-ConfirmsByRisk limit (Ok v) = JustWhen (v.finding ≡ Confirm) (AllByRecursion (λ r. r ≤ limit) (contest_risks v))
-ConfirmsByRisk limit (Err e) = Unit {0}
+abbrev pub ConfirmedByRisk : ℕ → Result Verdict Refusal → Type 0
+ConfirmedByRisk limit (Ok v) = JustWhen (v.finding ≡ Confirm) (AllByRecursion (λ r. r ≤ limit) (contest_risks v))
+ConfirmedByRisk limit (Err e) = Unit {0}
 
 -- Where calls on an audit just opened leave this state, a verdict's draw count is the number of entries that were taken.
 abbrev pub CountsEntries : {A S : Type 0} → Rules A S → Terms → State A S → Result Verdict Refusal → Type 0

@@ -27,7 +27,7 @@ impl Audit {
     ghost use Rattle.course.specs.Course.Call.{entry, verdict};
     ghost use Rattle.course.specs.Openings.{own_rules};
     ghost use Rattle.walks.specs.Walks.{settled_front};
-    ghost use Rattle.calls.specs.Answers.{ConfirmsByRisk, CountsEntries, DrawsWithin, KeptOnRefusal, refusal_in};
+    ghost use Rattle.calls.specs.Answers.{ConfirmedByRisk, CountsEntries, DrawsWithin, KeptOnRefusal, refusal_in};
     ghost use Rattle.calls.specs.Calls.{answer_as, audit_state, called, Escalated, first_refusal, in_code, reading_of, terms_of};
     ghost use Rattle.calls.specs.declared.answers.Answer.TheVariants as answer;
 
@@ -95,7 +95,7 @@ impl Audit {
         records: &[Record<A, P>],
     ) -> Result<Verdict, Refusal>
         ensures course { (audit_state self.now (map (account P.state) records.now), answer_as answer.Finding result) ≡ in_code (called (rules_of A.Assorter P.Policy) (terms_of self.now.terms) (length records.now) (audit_state self.now (map (account P.state) records.now)) verdict) }
-        ensures confirms { ConfirmsByRisk self.now.terms.risk_limit result }
+        ensures confirms { ConfirmedByRisk self.now.terms.risk_limit result }
         ensures bounded { DrawsWithin self.now.terms.draw_limit result }
         ensures draws { CountsEntries (rules_of A.Assorter P.Policy) (terms_of self.now.terms) (audit_state self.now (map (account P.state) records.now)) result }
     {
@@ -111,8 +111,6 @@ impl Audit {
     }
 
     /// Turns the audit into a hand count; that is always granted.
-    // The clause `course` is of the contests' own assertions, since no clause speaks of all types; with
-    // the same terms it follows for any assorters and policies, as `conduct` promises it.
     pub fn escalate(self) -> HandCount
         ensures course { Escalated own_rules self result }
         ensures terms { result.terms ≡ self.terms }

@@ -1,3 +1,4 @@
+ghost use Rattle.setup.specs.Described.{most_draws};
 ghost use Rattle.std.specs.Prelude.{◌≡◌, ◌<◌, ◌≤◌, map, length, take, sum, MatchResult};
 ghost use Rattle.refusal.specs.declared.Refusal.TheVariants.{NoRoom};
 
@@ -27,7 +28,7 @@ pub(crate) struct Terms {
     pub(crate) sizes: ArrayVec<Size, CONTESTS>,
     /// How many assertions there are in all contests.
     pub(crate) needed: usize,
-    ghost ranges: { (10 ≤ risk_limit) × (risk_limit ≤ 500) × (draw_limit ≤ 20000) × (length sizes.items ≤ 8) × (cards ≤ 65535) },
+    ghost ranges: { (10 ≤ risk_limit) × (risk_limit ≤ 500) × (draw_limit ≤ most_draws) × (length sizes.items ≤ 8) × (cards ≤ 65535) },
     ghost a_card: { 1 ≤ cards },
     ghost total: { needed ≡ sum (map (λ x. x.assertions) sizes.items) },
 }

@@ -7,6 +7,7 @@ use Rattle.refusal.specs.declared.Refusal.{Refusal}
 use Rattle.refusal.specs.declared.Refusal.TheVariants.{NotTheNextPlace}
 use Rattle.chance.specs.Sequences.{places}
 use Rattle.chance.proofs.Counts.{length_places}
+use Rattle.betting.specs.Limits.{last_tally}
 use Rattle.betting.specs.Accounts.{Account, fresh_account}
 use Rattle.course.specs.Terms.{Terms, Reading, blank_card}
 use Rattle.course.specs.Course.{Rules, State, Call, Answer, after_count, after_entry, all_above, first_of, parts, refusal_of, shown_value, step}
@@ -95,7 +96,7 @@ module _ {A S : Type 0} (R : Rules A S) (t : Terms) where
       shown_low : (a : A) (e : Reading) → shown_value R a e ≤ 1000
       shown_low a e = by_cond (λ n. n ≤ 1000) (eqb e.found 0) (λ _. omega arith) (λ _. law.low_value a e.card)
 
-      total_low : (a : A) (n : ℕ) → n ≤ t.cards → total a n ≤ 65535000
+      total_low : (a : A) (n : ℕ) → n ≤ t.cards → total a n ≤ last_tally
       total_low a n h =
           let all = sum_le (λ i. shown_value R a (show_drawn b i)) (λ i. 1000) (places n) (λ i. shown_low a (show_drawn b i)) in
           let c = sum_const 1000 (places n) in

@@ -8,7 +8,7 @@ use betting::Policy;
 
 /// Whatever the assorters and policies, of all draw sequences at most p in 1,000 bring the measured
 /// risk of a contest that the cards contradict to p thousandths, and at most the risk limit's share
-/// confirm it.
+/// confirm, or uphold such a contest.
 pub fn bounds_stand<A: Assorter, P: Policy>(_assorter: &A, _policy: &P)
     ensures measured { MeasuresRisk (rules_of A.Assorter P.Policy) }
     ensures limited { LimitsRisk (rules_of A.Assorter P.Policy) }

@@ -3,7 +3,8 @@ use Rattle.std.specs.Prelude.{◌≡◌, ℕ, ◌^◌, ◌-◌, ◌⊎◌, List,
 use Rattle.refusal.specs.declared.Fault.{Fault}
 use Rattle.refusal.specs.Numbers.{number}
 use Rattle.setup.specs.declared.setup.Setup.{Setup}
-use Rattle.setup.specs.Steps.{read_by_steps}
+use Rattle.setup.specs.Accepted.{ReadsSetups}
+use Rattle.setup.specs.Steps.{Outcome}
 use Rattle.report.specs.Lines.{reported}
 use Rattle.intake.specs.declared.memory.Memory.{Memory}
 use Rattle.intake.specs.Memories.{Blank, empty_lists}
@@ -22,6 +23,8 @@ abbrev pub setup_judged : ℕ → Result Setup Fault → ℕ × ℕ
 setup_judged before (Ok s) = (0, before)
 setup_judged before (Err f) = (number f.refusal, f.offset)
 
+-- So by what the rules have for the setup, read into memory for whatever the limits allow.
 abbrev pub JudgesSetup : List ℕ → ℕ → ℕ → ℕ → Type 0
 JudgesSetup setup before answer after =
-    (m : Memory) × Blank m × ((answer, after) ≡ setup_judged before (read_by_steps (empty_lists m) setup).answer)
+    (m : Memory) × Blank m × (o : Outcome) × ReadsSetups (empty_lists m) setup o
+    × ((answer, after) ≡ setup_judged before o.answer)

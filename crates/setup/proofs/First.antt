@@ -11,17 +11,17 @@ use Rattle.setup.specs.declared.progress.Progress.{Progress}
 use Rattle.setup.specs.Described.{WrittenBefore}
 use Rattle.setup.specs.Steps.{HeldLists, Stepped, without_items}
 use Rattle.setup.specs.Accepted.{RefusedAfter, lists_after}
-use Rattle.setup.specs.Refused.{LeadTo, Place, Reason, all_added, behind_opening, phase_at}
+use Rattle.setup.specs.Refused.{LeadTo, Position, Reason, all_added, behind_opening, phase_at}
 use Rattle.setup.proofs.Added.{lists_along}
 use Rattle.setup.proofs.Known.{Known, known_along}
 use Rattle.setup.proofs.Leads.{Leads, here, then}
-use Rattle.setup.proofs.Places.{one_place}
+use Rattle.setup.proofs.Positions.{one_position}
 use Rattle.setup.proofs.Reasons.{Judged, Seen, broken, crowded, none_stands, one_reason, one_stands, same_written, seen}
 use Rattle.setup.proofs.Refused.{Passes, passes_on, phase_there}
 
 -- ---- where a command was followed there is no reason
 
-module _ (ls : HeldLists) (ms : List Cmd) (w : Place) (bs : List ℕ) (e : Refusal) (m : Cmd) (rest : List ℕ) (x : Writes m bs rest)
+module _ (ls : HeldLists) (ms : List Cmd) (w : Position) (bs : List ℕ) (e : Refusal) (m : Cmd) (rest : List ℕ) (x : Writes m bs rest)
     (stands : allowed (phase_at w) (code m) ≡ true) (pass : Passes ls (all_added ms) w m) where
   no_judgment : Judged ls (all_added ms) w m e → ⊥
   no_judgment (crowded f n full) = pass.1 full
@@ -35,7 +35,7 @@ module _ (ls : HeldLists) (ms : List Cmd) (w : Place) (bs : List ℕ) (e : Refus
 
 pub past_none : (ls : HeldLists) (p : Progress) (l : HeldLists) (front : List Cmd) (ms : List Cmd) (q : Progress) (mid : HeldLists) (bs rest : List ℕ) →
     Known ls p l front → l ≡ lists_after ls front → Leads p l ms q mid → WrittenBefore ms bs rest →
-    (ns : List Cmd) (left : List ℕ) → WrittenBefore ns bs left → (w : Place) → LeadTo w (front ++ ns) → (e : Refusal) →
+    (ns : List Cmd) (left : List ℕ) → WrittenBefore ns bs left → (w : Position) → LeadTo w (front ++ ns) → (e : Refusal) →
     Reason ls (all_added (front ++ ns)) w left e → length ms ≤ length ns
 past_none ls p l front [] q mid bs rest k a here v ns left u w led e r = omega arith
 past_none ls p l front (m ∷ ms) q mid bs rest k a (then {q = p'} {mid = next} o g s lead) (mid_bytes, x, v) [] left u w led e r =
@@ -86,13 +86,13 @@ module _ (ls : HeldLists) (file : List ℕ) where
       let a = x.first y.commands y.rest g.refusal y.refused in
       let b = y.first x.commands x.rest f.refusal x.refused in
       let same = same_front x.commands y.commands file x.rest y.rest x.refused.written y.refused.written (omega arith) in
-      let led = subst (LeadTo x.refused.place) same.0 x.refused.led in
-      let place = one_place y.commands x.refused.place y.refused.place led y.refused.led in
-      let reason : Reason ls (all_added y.commands) y.refused.place y.rest f.refusal =
-      subst (λ (z : Place). Reason ls (all_added y.commands) z y.rest f.refusal) place
-      (subst (λ (z : List ℕ). Reason ls (all_added y.commands) x.refused.place z f.refusal) same.1
-      (subst (λ (z : List Cmd). Reason ls (all_added z) x.refused.place x.rest f.refusal) same.0 x.refused.reason)) in
-      let number : f.refusal ≡ g.refusal = one_reason ls (all_added y.commands) y.refused.place y.rest f.refusal g.refusal reason y.refused.reason in
+      let led = subst (LeadTo x.refused.position) same.0 x.refused.led in
+      let place = one_position y.commands x.refused.position y.refused.position led y.refused.led in
+      let reason : Reason ls (all_added y.commands) y.refused.position y.rest f.refusal =
+      subst (λ (z : Position). Reason ls (all_added y.commands) z y.rest f.refusal) place
+      (subst (λ (z : List ℕ). Reason ls (all_added y.commands) x.refused.position z f.refusal) same.1
+      (subst (λ (z : List Cmd). Reason ls (all_added z) x.refused.position x.rest f.refusal) same.0 x.refused.reason)) in
+      let number : f.refusal ≡ g.refusal = one_reason ls (all_added y.commands) y.refused.position y.rest f.refusal g.refusal reason y.refused.reason in
       let one_file : f.file ≡ g.file = x.in_setup ∙ sym y.in_setup in
       let long = ap length same.1 in
       let offset : f.offset ≡ g.offset = omega (arith, x.there, y.there) in

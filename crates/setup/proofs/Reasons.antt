@@ -10,7 +10,7 @@ use Rattle.format.specs.Written.{Writes}
 use Rattle.format.proofs.Writing.{written_is_taken}
 use Rattle.refusal.specs.declared.Refusal.{Refusal}
 use Rattle.setup.specs.Steps.{HeldLists}
-use Rattle.setup.specs.Refused.{Added, Breaks, Full, Place, Reason, IsNext, behind_opening, phase_at}
+use Rattle.setup.specs.Refused.{Added, Breaks, Full, Position, Reason, IsNext, behind_opening, phase_at}
 
 -- ---- numbers
 
@@ -64,26 +64,26 @@ same_written m n bs r s v w =
 -- ---- what a reason tells
 
 -- Where no command may stand.
-abbrev bare : Place → List ℕ → Refusal
+abbrev bare : Position → List ℕ → Refusal
 bare behind_opening bs = no.TrailingBytes
 bare w [] = no.EndsEarly
 bare w (b ∷ tail) = cond (allowed (phase_at w) b) no.EndsEarly no.OutOfOrder
 
-bare_end : (w : Place) → (w ≡ behind_opening → ⊥) → bare w [] ≡ no.EndsEarly
+bare_end : (w : Position) → (w ≡ behind_opening → ⊥) → bare w [] ≡ no.EndsEarly
 bare_end behind_opening c = absurd (c refl)
 bare_end _ c = refl
 
-bare_byte : (w : Place) (b : ℕ) (tail : List ℕ) (v : Bool) → (w ≡ behind_opening → ⊥) → allowed (phase_at w) b ≡ v →
+bare_byte : (w : Position) (b : ℕ) (tail : List ℕ) (v : Bool) → (w ≡ behind_opening → ⊥) → allowed (phase_at w) b ≡ v →
     bare w (b ∷ tail) ≡ cond v no.EndsEarly no.OutOfOrder
 bare_byte behind_opening b tail v c h = absurd (c refl)
 bare_byte _ b tail v c h = ap (λ (z : Bool). cond z no.EndsEarly no.OutOfOrder) h
 
 -- Of a command that stands there.
-pub data Judged (ls : HeldLists) (a : Added) (w : Place) (m : Cmd) (e : Refusal) : Type 0 where
+pub data Judged (ls : HeldLists) (a : Added) (w : Position) (m : Cmd) (e : Refusal) : Type 0 where
   crowded : no.NoRoom ≡ e → ((d : Refusal) → Breaks a w m d → ⊥) → Full ls a m → Judged ls a w m e
   broken : Breaks a w m e → ((d : Refusal) → number d < number e → Breaks a w m d → ⊥) → Judged ls a w m e
 
-one_judgment : (ls : HeldLists) (a : Added) (w : Place) (m : Cmd) (d e : Refusal) → Judged ls a w m d → Judged ls a w m e → d ≡ e
+one_judgment : (ls : HeldLists) (a : Added) (w : Position) (m : Cmd) (d e : Refusal) → Judged ls a w m d → Judged ls a w m e → d ≡ e
 one_judgment ls a w m d e (crowded f n u) (crowded g k v) = sym f ∙ g
 one_judgment ls a w m d e (crowded f n u) (broken b k) = absurd (n e b)
 one_judgment ls a w m d e (broken b k) (crowded f n u) = absurd (n d b)
@@ -92,11 +92,11 @@ one_judgment ls a w m d e (broken b k) (broken c l) =
     let y : number e < number d → ⊥ = λ h. k e h c in
     same_number d e (omega arith)
 
-pub data Seen (ls : HeldLists) (a : Added) (w : Place) (bs : List ℕ) (e : Refusal) : Type 0 where
+pub data Seen (ls : HeldLists) (a : Added) (w : Position) (bs : List ℕ) (e : Refusal) : Type 0 where
   none_stands : bare w bs ≡ e → ((m : Cmd) → IsNext w m bs → ⊥) → Seen ls a w bs e
   one_stands : (m : Cmd) → IsNext w m bs → Judged ls a w m e → Seen ls a w bs e
 
-module _ (ls : HeldLists) (a : Added) (w : Place) where
+module _ (ls : HeldLists) (a : Added) (w : Position) where
   no_byte : (m : Cmd) → IsNext w m [] → ⊥
   no_byte m (rest, x, g) = let h = x.begins in absurd (cc)
 
@@ -115,8 +115,8 @@ module _ (ls : HeldLists) (a : Added) (w : Place) where
 
   followed : (bs : List ℕ) → Reason ls a w bs no.TrailingBytes → Seen ls a w bs no.TrailingBytes
   followed bs (e, some) =
-      none_stands (ap (λ (z : Place). bare z bs) e)
-      (λ m (rest, x, f). absurd (let k : true ≡ false = sym f ∙ ap (λ (z : Place). allowed (phase_at z) (code m)) e in cc))
+      none_stands (ap (λ (z : Position). bare z bs) e)
+      (λ m (rest, x, f). absurd (let k : true ≡ false = sym f ∙ ap (λ (z : Position). allowed (phase_at z) (code m)) e in cc))
 
   pub seen : (bs : List ℕ) (e : Refusal) → Reason ls a w bs e → Seen ls a w bs e
   seen bs no.EndsEarly h = ended bs h

@@ -6,7 +6,8 @@ use Rattle.refusal.specs.Numbers.{fault_line}
 use Rattle.ballot.specs.declared.Candidate.{Candidate}
 use Rattle.ballot.specs.declared.Contest.{Contest}
 use Rattle.setup.specs.declared.setup.Setup.{Setup}
-use Rattle.setup.specs.Steps.{HeldLists, Outcome, read_by_steps}
+use Rattle.setup.specs.Accepted.{ReadsSetups}
+use Rattle.setup.specs.Steps.{HeldLists, Outcome}
 use Rattle.assertion.specs.declared.assertions.Assertion.{Assertion}
 use Rattle.betting.specs.Accounts.{Account}
 use Rattle.betting.specs.Policies.{Chosen}
@@ -63,8 +64,11 @@ ToldIfRead ls draws text (Err f) = text ≡ fault_lines (Some f)
 abbrev pub ToldByOutcome : Outcome → List ℕ → List ℕ → Type 0
 ToldByOutcome o draws text = ToldIfRead o.lists draws text o.answer
 
--- The text for a setup file and a draws file. The setup is read into memory for whatever the limits allow.
+-- The text for a setup file and a draws file. The setup is read, as the rules have it, into memory for whatever the limits
+-- allow.
 pub record Tells (setup draws text : List ℕ) : Type 0 where
   pub memory : Memory
   pub blank : Blank memory
-  pub told : ToldByOutcome (read_by_steps (empty_lists memory) setup) draws text
+  pub outcome : Outcome
+  pub read : ReadsSetups (empty_lists memory) setup outcome
+  pub told : ToldByOutcome outcome draws text

@@ -9,7 +9,7 @@ use Rattle.ballot.specs.declared.Kind.TheVariants.{Plurality, Approval, Supermaj
 use Rattle.ballot.specs.Contests.{kind_number, share_p, share_q}
 use Rattle.format.specs.Format.{Cmd, batch, terms, contest, candidate, opens}
 use Rattle.setup.specs.Described.{batch_command, candidate_command, contest_command, terms_command}
-use Rattle.setup.specs.Refused.{LeadTo, Place, at_front, behind_batches, behind_opening, behind_terms, inside}
+use Rattle.setup.specs.Refused.{LeadTo, Position, at_front, behind_batches, behind_opening, behind_terms, inside}
 
 -- ---- a command tells what it was written of
 
@@ -56,7 +56,7 @@ data Mark : Type 0 where
   inside_mark : Cmd → List Cmd → Mark
   opening_mark : Mark
 
-abbrev mark : Place → Mark
+abbrev mark : Position → Mark
 mark at_front = front_mark
 mark behind_batches = batches_mark
 mark behind_terms = terms_mark
@@ -90,7 +90,7 @@ by_candidates m done [] = ap (inside_mark m) (sym (append-nil done))
 by_candidates m done (c ∷ cs) =
     by_candidates m (done ++ candidate_command c ∷ []) cs ∙ ap (inside_mark m) (append_assoc done (candidate_command c ∷ []) (map candidate_command cs))
 
-marked : (w : Place) (ms : List Cmd) → LeadTo w ms → mark w ≡ all_moved front_mark ms
+marked : (w : Position) (ms : List Cmd) → LeadTo w ms → mark w ≡ all_moved front_mark ms
 marked at_front ms e = sym (ap (all_moved front_mark) e)
 marked behind_batches ms (bs, some, e) = sym (ap (all_moved front_mark) e ∙ by_batches front_mark bs some)
 marked behind_terms ms (bs, t, e) = sym (ap (all_moved front_mark) e ∙ moved_on front_mark (map batch_command bs) (terms_command t ∷ []))
@@ -98,7 +98,7 @@ marked (inside x own) ms (before, e) =
     sym (ap (all_moved front_mark) e ∙ moved_on front_mark before (contest_command x ∷ map candidate_command own) ∙ by_candidates (contest_command x) [] own)
 marked behind_opening ms (before, e) = sym (ap (all_moved front_mark) e ∙ moved_on front_mark before (opens ∷ []))
 
-same_mark : (v w : Place) → mark v ≡ mark w → v ≡ w
+same_mark : (v w : Position) → mark v ≡ mark w → v ≡ w
 same_mark at_front at_front h = refl
 same_mark behind_batches behind_batches h = refl
 same_mark behind_terms behind_terms h = refl
@@ -109,5 +109,5 @@ same_mark (inside x own) (inside y others) h =
     cc
 same_mark _ _ h = absurd (cc)
 
-pub one_place : (ms : List Cmd) (v w : Place) → LeadTo v ms → LeadTo w ms → v ≡ w
-one_place ms v w a b = same_mark v w (marked v ms a ∙ sym (marked w ms b))
+pub one_position : (ms : List Cmd) (v w : Position) → LeadTo v ms → LeadTo w ms → v ≡ w
+one_position ms v w a b = same_mark v w (marked v ms a ∙ sym (marked w ms b))
