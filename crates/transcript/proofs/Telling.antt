@@ -15,14 +15,14 @@ use Rattle.calls.specs.declared.drawing.Audit.{Audit}
 use Rattle.calls.specs.Calls.{audit_state, terms_of}
 use Rattle.calls.specs.Openings.{Begun, OwnAssertions}
 use Rattle.replay.specs.Replays.{Replays}
-use Rattle.transcript.specs.Transcripts.{Told, transcript}
+use Rattle.transcript.specs.Transcripts.{TextOf, transcript}
 
 module _ (s : Setup) (xs : List Contest) (cs : List Candidate) (audit : Audit) (accounts : List (Account Assertion Chosen)) where
   pub told :
       (draws : List ℕ) (answers : List Answer) (fault : Option Fault) (standing : Standing) (after : State Assertion Chosen) →
       Begun own_rules s xs accounts audit → OwnAssertions s xs cs accounts audit →
       Replays own_rules (terms_of audit.terms) (audit_state audit accounts) draws answers fault standing after →
-      Told s xs cs draws (transcript answers fault)
+      TextOf s xs cs draws (transcript answers fault)
   told draws answers fault standing after begun own replays = record {
     audit = audit;
     accounts = accounts;

@@ -42,9 +42,9 @@ transcript answers fault = flat_map answer_lines answers ++ fault_lines fault
 
 -- ---- two files
 
--- The text tells how an audit of the setup, just opened with the assertions of its contests, answers the draws file; and
--- what is promised of every audit that is opened so.
-pub record Told (s : Setup) (xs : List Contest) (cs : List Candidate) (draws text : List ℕ) : Type 0 where
+-- The text is how an audit of the setup, just opened with the assertions of its contests, answers the draws file; and with it
+-- stands what is promised of every audit that is opened so.
+pub record TextOf (s : Setup) (xs : List Contest) (cs : List Candidate) (draws text : List ℕ) : Type 0 where
   pub audit : Audit
   pub accounts : List (Account Assertion Chosen)
   pub begun : Begun own_rules s xs accounts audit
@@ -57,12 +57,12 @@ pub record Told (s : Setup) (xs : List Contest) (cs : List Candidate) (draws tex
   pub text_is : text ≡ transcript answers fault
 
 -- A refused setup has the line of its fault alone, and its draws file is not followed.
-abbrev pub ToldIfRead : HeldLists → List ℕ → List ℕ → Result Setup Fault → Type 0
-ToldIfRead ls draws text (Ok s) = Told s ls.contests.items ls.candidates.items draws text
-ToldIfRead ls draws text (Err f) = text ≡ fault_lines (Some f)
+abbrev pub TextIfRead : HeldLists → List ℕ → List ℕ → Result Setup Fault → Type 0
+TextIfRead ls draws text (Ok s) = TextOf s ls.contests.items ls.candidates.items draws text
+TextIfRead ls draws text (Err f) = text ≡ fault_lines (Some f)
 
-abbrev pub ToldByOutcome : Outcome → List ℕ → List ℕ → Type 0
-ToldByOutcome o draws text = ToldIfRead o.lists draws text o.answer
+abbrev pub TextByOutcome : Outcome → List ℕ → List ℕ → Type 0
+TextByOutcome o draws text = TextIfRead o.lists draws text o.answer
 
 -- The text for a setup file and a draws file. The setup is read, as the rules have it, into memory for whatever the limits
 -- allow.
@@ -71,4 +71,4 @@ pub record Tells (setup draws text : List ℕ) : Type 0 where
   pub blank : Blank memory
   pub outcome : Outcome
   pub read : ReadsSetups (empty_lists memory) setup outcome
-  pub told : ToldByOutcome outcome draws text
+  pub text_is : TextByOutcome outcome draws text

@@ -2,7 +2,7 @@
 ghost use Rattle.std.specs.Prelude.{IfOk};
 ghost use Rattle.acceptance.specs.Held.{HoldsSetup};
 ghost use Rattle.setup.specs.Steps.{held_lists};
-ghost use Rattle.transcript.specs.Transcripts.{Tells, Told};
+ghost use Rattle.transcript.specs.Transcripts.{Tells, TextOf};
 
 use crate::lines::transcript;
 use crate::memory::blank_records;
@@ -21,7 +21,7 @@ fn follow(
     draws: &[u8],
 ) -> Result<Vec<u8>, AllocError>
     requires { HoldsSetup setup (held_lists lists.now).contests.items (held_lists lists.now).candidates.items }
-    ensures { IfOk result (λ v. Told setup (held_lists lists.now).contests.items (held_lists lists.now).candidates.items draws.now v.items) }
+    ensures { IfOk result (λ v. TextOf setup (held_lists lists.now).contests.items (held_lists lists.now).candidates.items draws.now v.items) }
 {
     let contests = lists.contests.items();
     let candidates = lists.candidates.items();

@@ -5,7 +5,7 @@ use Rattle.betting.specs.Accounts.{account}
 use Rattle.betting.specs.Policies.{chosen_state}
 use Rattle.calls.specs.Calls.{standing_state, terms_of}
 use Rattle.replay.specs.Replays.{HasRoom}
-use Rattle.transcript.specs.Transcripts.{Told, transcript}
+use Rattle.transcript.specs.Transcripts.{TextOf, transcript}
 use Rattle.transcript.proofs.Telling.{if_made, told}
 use Rattle.transcript.proofs.files.follow.Goals as goal
 
@@ -26,7 +26,7 @@ returns c =
     grind (arith, nat_tests, total, needed, c.in-Ok.ensures.answer.1, c.open.auto.records) in
     let room : HasRoom (terms_of audit.terms) (length c.open.new.records) draws (length c.as_mut_slice-places.result.now) =
     record { for_records = enough; for_answers = grind (arith, common_steps, c.in_ok-answers.ensures.len, c.as_mut_slice-places.ensures.len, c.commands_in.ensures.count) } in
-    let made = if_made c.transcript.result (λ v. v.items) (transcript answers r.result.fault) (Told s xs cs draws) c.transcript.ensures
+    let made = if_made c.transcript.result (λ v. v.items) (transcript answers r.result.fault) (TextOf s xs cs draws) c.transcript.ensures
     (told s xs cs audit accounts draws answers r.result.fault r.result.standing
     (standing_state r.result.standing (map (account chosen_state) r.new.records)) begun c.in-Ok.ensures.own
     (r.ensures.replays room)) in
