@@ -12,6 +12,9 @@ use betting::{Policy, Record, play};
 
 /// The place of the first assertion that needs more draws at the risk limit, counted from 0; none
 /// where no assertion does.
+// Not inlined: in a loop of its own the limit and the count stay in registers, which are scarce where
+// a whole draws file is followed.
+#[inline(never)]
 pub fn first_unsettled<A, P: Policy>(records: &[Record<A, P>], limit: u16) -> Option<usize>
     ensures is { let xs = map (account P.state) records.now in result ≡ (if all_settled limit xs then None else Some (settled_front limit xs)) }
     ensures before { IfSome result (λ first. IsTrue (all_settled limit (take first (map (account P.state) records.now)))) }
