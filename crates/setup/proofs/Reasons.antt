@@ -5,7 +5,7 @@ use Rattle.refusal.specs.declared.Refusal.TheVariants as no
 use Rattle.refusal.specs.Numbers.{number}
 use Rattle.format.specs.declared.command.Phase.{Phase}
 use Rattle.format.specs.declared.command.Phase.TheVariants as at
-use Rattle.format.specs.Format.{Cmd, Taken, batch, terms, contest, candidate, opens, entry, verdict, escalate, count, close, allowed, code}
+use Rattle.format.specs.Format.{Cmd, Taken, batch, terms, contest, candidate, opens, count, close, allowed, code}
 use Rattle.format.specs.Written.{Writes}
 use Rattle.format.proofs.Writing.{written_is_taken}
 use Rattle.refusal.specs.declared.Refusal.{Refusal}
@@ -39,11 +39,9 @@ phase_of (terms r d policy weight) = at.Batches
 phase_of (contest kind c k p q) = at.Terms
 phase_of (candidate name votes) = at.Candidates
 phase_of opens = at.Contests
-phase_of (entry place found marks) = at.Drawing
-phase_of verdict = at.Drawing
-phase_of escalate = at.Drawing
 phase_of (count place found marks) = at.Counting
 phase_of close = at.Counting
+phase_of _ = at.Drawing
 
 stands_somewhere : (m : Cmd) → allowed (phase_of m) (code m) ≡ true
 stands_somewhere opens = refl
