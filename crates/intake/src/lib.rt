@@ -19,7 +19,7 @@ pub const LIMIT: usize = 65_536;
 
 /// The bytes of a file; a missing file is empty, and of one that is too long there are none.
 pub fn read_file(rt: &HostRuntime, path: &str) -> io::Result<Option<Vec<u8>>>
-    ensures { IfOk result (λ o. IfSome o (λ v. vec_len v ≤ LIMIT)) }
+    ensures { IfOk result (λ o. IfSome o (λ v. vec_len v ≤ 65536)) }
 {
     let mut bytes = Vec::new(rt.alloc());
     match File::open(rt, path) {
@@ -43,7 +43,7 @@ pub fn tell_too_long(rt: &HostRuntime) -> io::Result<()> {
 
 /// The same as `read_file`; of a file that is too long it prints that, too.
 pub fn read_or_tell(rt: &HostRuntime, path: &str) -> io::Result<Option<Vec<u8>>>
-    ensures { IfOk result (λ o. IfSome o (λ v. vec_len v ≤ LIMIT)) }
+    ensures { IfOk result (λ o. IfSome o (λ v. vec_len v ≤ 65536)) }
 {
     let file = read_file(rt, path)?;
     if file.is_none() {
