@@ -6,7 +6,7 @@
 
 use ballot::{BATCHES, CONTESTS};
 use bounded::List;
-use intake::{CANDIDATES, Memory, read_file, read_or_tell, setup_or_tell};
+use intake::{CANDIDATES, Memory, read_file, read_or_tell, setup_or_tell, tell_too_long};
 use protocol::print_audit_of;
 use setup::Lists;
 use std::{fs, io};
@@ -45,10 +45,12 @@ fn judge_line(rt: &HostRuntime, line: &str) -> io::Result<()> {
         return println!(rt; "{line}: no case");
     };
     let path = format!(in rt.alloc(); "{case}.bin")?;
+    // Read before the case is named: of a file that cannot be read nothing is printed.
+    let file = read_file(rt, path.as_str())?;
     print!(rt; "{case}\t")?;
-    match read_or_tell(rt, path.as_str())? {
+    match file {
         Some(file) => judge(rt, file.as_slice(), ENOUGH),
-        None => Ok(()),
+        None => tell_too_long(rt),
     }
 }
 
